@@ -1,0 +1,9 @@
+pub mod Integers
+pub mod SumLaws
+pub mod Binomials
+pub mod WordLaws
+pub mod WordLists
+pub mod MoveLaws
+pub mod ProductLaws
+pub mod ProductBounds
+pub mod SignatureLaws

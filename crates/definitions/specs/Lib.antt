@@ -1,0 +1,6 @@
+pub mod Words
+pub mod Sums
+pub mod Products
+pub mod Moves
+pub mod Signature
+pub mod Rows
