@@ -1,0 +1,2 @@
+pub mod TensorLaws
+pub mod PrefixLaws

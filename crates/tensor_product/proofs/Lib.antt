@@ -1,0 +1,4 @@
+pub mod PartialSums
+pub mod ExtendLaws
+pub mod SigLaws
+pub mod MultiplyLaws

@@ -1,0 +1,4 @@
+pub mod Sigs
+pub mod Faults
+pub mod Extension
+pub mod Multiplication

@@ -1,0 +1,13 @@
+//! Signatures of lists of moves, exact, with their weight: extended by a row in place, and multiplied.
+#![tactic(auto)]
+
+mod extend;
+pub mod fault;
+pub mod laws;
+mod multiply;
+pub mod sig;
+#[cfg(test)]
+mod tests;
+
+pub use fault::ProductFault;
+pub use sig::{Overflow, Sig, exp_row, extend_row, fitting, product};

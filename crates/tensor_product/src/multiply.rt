@@ -1,0 +1,90 @@
+//! The product of two tensors, word by word.
+ghost use Rattle.std.specs.Prelude.{◌≡◌, ◌≢◌, ◌≤◌, ◌+ℤ◌, ◌*ℤ◌, ℕ, suc, List, length, pos, slice_index_or, unsigned_abs};
+ghost use Rattle.definitions.specs.Words.{IsWord, IsShape, shorter};
+ghost use Rattle.definitions.specs.Products.{scaled_product};
+ghost use Rattle.definitions.specs.Signature.{limit};
+ghost use Rattle.scaled_tensor.specs.Tensors.{coefficient};
+ghost use Rattle.tensor_product.specs.Extension.{prefixes_of};
+ghost use Rattle.tensor_product.specs.Multiplication.{cut_sum, HasCutRoom, IsProductBelow, IsProduct};
+
+use crate::extend::{product_of, sum_of};
+use scaled_tensor::Tensor;
+use words::binom;
+
+/// What one cut of a word adds to the sum.
+fn cut_term(ways: u64, prefix: i128, suffix: i128) -> i128
+    requires joined { unsigned_abs (prefix *ℤ suffix) ≤ limit }
+    requires term { unsigned_abs (pos ways *ℤ (prefix *ℤ suffix)) ≤ limit }
+    ensures { result ≡ pos ways *ℤ (prefix *ℤ suffix) }
+{
+    product_of(ways as i128, product_of(prefix, suffix))
+}
+
+/// The sum over the cuts of a word, from the coefficients of its prefixes in the first factor.
+fn sum_over_cuts(prefixes: &[i128], b: &Tensor, word: &[u32]) -> i128
+    requires word { IsWord b.now.extent word.now }
+    requires short { length word.now ≤ 8 }
+    requires prefixes { length prefixes.now ≡ suc (length word.now) }
+    requires room { HasCutRoom (λ i. slice_index_or prefixes.now i (pos 0)) (coefficient b.now) word.now }
+    ensures value { result ≡ cut_sum (λ i. slice_index_or prefixes.now i (pos 0)) (coefficient b.now) word.now (suc (length word.now)) }
+    ensures bound { unsigned_abs result ≤ limit }
+{
+    let length = word.len();
+    let mut sum = 0;
+    for cut in 0..length + 1 {
+        let ways = binom(length as u32, cut as u32);
+        let suffix = b.get(&word[cut..]);
+        sum = sum_of(sum, cut_term(ways, prefixes[cut], suffix));
+    }
+    sum
+}
+
+/// Writes the coefficient of one word.
+fn multiply_word(a: &Tensor, b: &Tensor, product: &mut Tensor, word: &[u32])
+    requires word { IsWord a.now.extent word.now }
+    requires shape { IsShape a.now.extent }
+    requires same { b.now.extent ≡ a.now.extent }
+    requires room { HasCutRoom (prefixes_of a.now word.now) (coefficient b.now) word.now }
+    requires extent { product.old.extent ≡ a.now.extent }
+    ensures extent { product.new.extent ≡ a.now.extent }
+    ensures written { coefficient product.new word.now ≡ scaled_product (coefficient a.now) (coefficient b.now) word.now }
+    ensures others { (other : List ℕ) → IsWord a.now.extent other → other ≢ word.now → coefficient product.new other ≡ coefficient product.old other }
+{
+    let mut values = [0i128; 9];
+    let prefixes = &mut values[..word.len() + 1];
+    a.read_prefixes(word, prefixes);
+    let value = sum_over_cuts(prefixes, b, word);
+    product.set(word, value);
+}
+
+/// Writes the coefficients of the words of k letters.
+fn multiply_level(a: &Tensor, b: &Tensor, product: &mut Tensor, k: u32)
+    requires shape { IsShape a.now.extent }
+    requires same { b.now.extent ≡ a.now.extent }
+    requires k { k ≤ a.now.extent.depth }
+    requires room { (word : List ℕ) → IsWord a.now.extent word → HasCutRoom (prefixes_of a.now word) (coefficient b.now) word }
+    requires shorter { IsProductBelow (shorter a.now.extent.width k) a.now b.now product.old }
+    ensures { IsProductBelow (shorter a.now.extent.width (suc k)) a.now b.now product.new }
+{
+    let shape = a.shape();
+    let count = a.level(k).len() as u64;
+    let mut letters = [0u32; 8];
+    let word = &mut letters[..k as usize];
+    for index in 0..count {
+        shape.write_word(index, word);
+        multiply_word(a, b, product, word);
+    }
+}
+
+/// Writes all coefficients, those of the shorter words first.
+pub(crate) fn multiply_all(a: &Tensor, b: &Tensor, product: &mut Tensor)
+    requires shape { IsShape a.now.extent }
+    requires same { b.now.extent ≡ a.now.extent }
+    requires extent { product.old.extent ≡ a.now.extent }
+    requires room { (word : List ℕ) → IsWord a.now.extent word → HasCutRoom (prefixes_of a.now word) (coefficient b.now) word }
+    ensures { IsProduct a.now b.now product.new }
+{
+    for k in 0..a.shape().depth() + 1 {
+        multiply_level(a, b, product, k);
+    }
+}
