@@ -1,0 +1,3 @@
+pub mod LineLaws
+pub mod NameText
+pub mod Places

@@ -1,0 +1,13 @@
+//! The spellings of a script: lines, words, numbers, times and names, as bytes.
+#![tactic(auto)]
+
+mod cut;
+pub mod lines;
+pub mod names;
+pub mod numbers;
+#[cfg(test)]
+mod tests;
+
+pub use lines::{is_content, split_line, words_in};
+pub use names::{is_name, name_text};
+pub use numbers::{plain_number, tick, whole_number};
