@@ -1,0 +1,4 @@
+pub mod Lists
+pub mod Cover
+pub mod Longest
+pub mod Counts
