@@ -1,0 +1,6 @@
+mod Places
+mod Names
+mod Ties
+mod Ranges
+mod Edits
+mod Order
