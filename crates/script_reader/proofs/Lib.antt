@@ -1,0 +1,5 @@
+mod Examples
+mod Fields
+mod Tallies
+mod Kept
+pub mod Loop

@@ -1,0 +1,50 @@
+-- Reading line by line is reading the whole list of lines.
+use Rattle.std.proofs.Common.{◌≡◌, ℕ, suc, ◌+◌, ◌<◌, ◌≤◌, true, if◌then◌else◌, List, [], ◌∷◌, ◌++◌, length, filter, Option, None, ap, sym, ◌∙◌, arith, append_assoc, add-one}
+use Rattle.spellings.specs.Lines.{lines_of, words_in, is_content}
+use Rattle.script_reader.specs.declared.command.Command.{Command}
+use Rattle.script_reader.specs.declared.fault.Reason.{Reason}
+use Rattle.script_reader.specs.declared.tally.Tally.{Tally}
+use Rattle.script_reader.specs.Lines.{keyword_in, tally, reason_of, reason_after}
+use Rattle.script_reader.specs.Script.{bad_or, first_bad}
+use Rattle.script_reader.specs.Reading.{IsLine, tally_after, sessions_after, Keeps, Takes}
+use Rattle.script_reader.proofs.Tallies.{sessions_so_far, tally_takes, sessions_take}
+use Rattle.script_reader.proofs.Kept.{keeps_next}
+
+-- after so many lines, with this rest: what is still to be found out, and what the lines before say
+pub record IsReading (bytes : List ℕ) (number : ℕ) (rest : List ℕ) (t : Tally) (sessions : List (List Command)) : Type 0 where
+  pub earlier : List (List ℕ)
+  pub first : first_bad 0 [] (lines_of bytes) ≡ first_bad number earlier (lines_of rest)
+  pub content : filter is_content (lines_of bytes) ≡ earlier ++ filter is_content (lines_of rest)
+  pub tallied : tally earlier ≡ t
+  pub added : sessions_so_far earlier ≡ sessions
+  pub kept : Keeps t sessions
+  pub passed : number + length rest ≤ length bytes
+
+-- a line is passed over, or judged
+bad_judges : (number : ℕ) (earlier : List (List ℕ)) (line : List ℕ) (lines : List (List ℕ)) (due : Option Reason) → is_content line ≡ true → reason_of earlier line ≡ due → first_bad number earlier (line ∷ lines) ≡ bad_or (number + 1) due (first_bad (number + 1) (earlier ++ line ∷ []) lines)
+bad_judges number earlier line lines due content is =
+    ap (λ t. if t then bad_or (suc number) (reason_of earlier line) (first_bad (suc number) (earlier ++ line ∷ []) lines) else first_bad (suc number) earlier lines) content
+    ∙ ap (λ r. bad_or (suc number) r (first_bad (suc number) (earlier ++ line ∷ []) lines)) is
+    ∙ ap (λ n. bad_or n due (first_bad n (earlier ++ line ∷ []) lines)) (sym (add-one number))
+
+-- the content lines, from one on
+filter_takes : (line : List ℕ) (lines : List (List ℕ)) → is_content line ≡ true → filter is_content (line ∷ lines) ≡ line ∷ filter is_content lines
+filter_takes line lines content = ap (λ t. if t then line ∷ filter is_content lines else filter is_content lines) content
+
+-- a good content line is taken
+pub takes_line : (bytes : List ℕ) (number : ℕ) (rest : List ℕ) (t : Tally) (sessions : List (List Command)) (line after : List ℕ) (t' : Tally) (sessions' : List (List Command)) → IsReading bytes number rest t sessions → lines_of rest ≡ line ∷ lines_of after → length after < length rest → is_content line ≡ true → reason_after t line ≡ None → Takes t sessions line t' sessions' → IsReading bytes (number + 1) after t' sessions'
+takes_line bytes number rest t sessions line after t' sessions' r e shorter content good took =
+    let here : IsLine (tally r.earlier) (keyword_in line) (words_in line) took.said = rw r.tallied took.good in
+    record {
+      earlier = r.earlier ++ line ∷ [];
+      first =
+          r.first ∙ ap (first_bad number r.earlier) e
+          ∙ bad_judges number r.earlier line (lines_of after) None content (ap (λ b. reason_after b line) r.tallied ∙ good);
+      content =
+          r.content ∙ ap (λ ls. r.earlier ++ filter is_content ls) e ∙ ap (λ ls. r.earlier ++ ls) (filter_takes line (lines_of after) content)
+          ∙ sym (append_assoc r.earlier (line ∷ []) (filter is_content (lines_of after)));
+      tallied = tally_takes r.earlier line took.said here ∙ ap (λ b. tally_after b took.said) r.tallied ∙ sym took.tallied;
+      added = sessions_take r.earlier line took.said here ∙ ap (λ s. sessions_after s took.said) r.added ∙ sym took.added;
+      kept = rw (took.tallied, took.added) (keeps_next t sessions took.said r.kept took.good.next);
+      passed = omega (arith, r.passed, shorter);
+    }

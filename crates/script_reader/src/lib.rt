@@ -1,0 +1,19 @@
+//! Scripts: what they are, and how they are read from bytes.
+#![tactic(auto)]
+
+pub mod command;
+pub mod fault;
+mod form;
+mod keyword;
+mod reader;
+pub mod script;
+mod tally;
+
+pub use command::{Ask, Command, Commands, Edit, Kind};
+pub use fault::{Reason, ScriptFault};
+pub use increments::Name;
+pub use reader::read_script;
+pub use script::Script;
+
+#[cfg(test)]
+mod tests;

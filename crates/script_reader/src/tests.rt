@@ -1,0 +1,174 @@
+use crate::{Command, Edit, Kind, Reason, ScriptFault, read_script};
+use std::alloc::{AllocError, Global};
+use std::test::Fail;
+
+/// Why the bytes are no script, `None` where they are one.
+fn fault_of(alloc: Global, bytes: &[u8]) -> Option<ScriptFault> {
+    read_script(alloc, bytes).err()
+}
+
+/// A text, and then a line over and over.
+fn repeated(alloc: Global, head: &str, line: &str, count: u32) -> Result<Vec<u8>, AllocError> {
+    let mut bytes = Vec::from_slice(alloc, head.as_bytes())?;
+    for _i in 0..count {
+        bytes.extend_from_slice(line.as_bytes())?;
+    }
+    Ok(bytes)
+}
+
+#[test]
+fn first_lines(rt: HostRuntime) {
+    for (text, line, reason) in [
+        ("", 1, Reason::End),
+        ("\n", 2, Reason::End),
+        ("\r", 2, Reason::End),
+        ("shape 2 2", 2, Reason::End),
+        ("# no session\n\nshape 2 2\n#\n", 5, Reason::End),
+        ("shape 2 2\u{1}", 1, Reason::Byte),
+        ("shape\r 2 2", 1, Reason::Byte),
+        ("shape 2 2\r\r\n", 1, Reason::Byte),
+        ("\u{7f}shapes", 1, Reason::Byte),
+        ("shapes 2 2", 1, Reason::Keyword),
+        ("\nShape 2 2", 2, Reason::Keyword),
+        ("session 1", 1, Reason::Place),
+        ("log", 1, Reason::Place),
+        ("shape 2 2\n\nshape", 3, Reason::Place),
+        ("shape 2 2\nappend a", 2, Reason::Place),
+        ("shape 2 2\ncorrect a", 2, Reason::Place),
+        ("shape x y z", 1, Reason::Fields),
+        ("shape x", 1, Reason::Fields),
+        ("shape 2 x", 1, Reason::Number),
+        ("shape 4294967296 2", 1, Reason::Number),
+        ("shape 13 x", 1, Reason::Number),
+        ("shape 4294967295 2", 1, Reason::Width),
+        ("shape 13 2", 1, Reason::Width),
+        ("shape 0 9", 1, Reason::Width),
+        ("shape 2 9", 1, Reason::Depth),
+        ("shape 2 0", 1, Reason::Depth),
+        ("shape 7 4", 1, Reason::Words),
+        ("shape 2 2\nsession", 2, Reason::Fields),
+        ("shape 2 2\nsession x", 2, Reason::Number),
+        ("shape 2 2\nsession 0", 2, Reason::Session),
+        ("shape 2 2\nsession 2\nshape", 2, Reason::Session),
+    ] {
+        assert_eq!(rt;
+            fault_of(rt.alloc(), text.as_bytes()),
+            Some(ScriptFault::Line(line, reason)),
+            "{text}"
+        );
+    }
+}
+
+#[test]
+fn commands(rt: HostRuntime) -> Result<(), Fail> {
+    for (text, line, reason) in [
+        ("appends a 0 2 3", 3, Reason::Keyword),
+        ("session", 3, Reason::Later),
+        ("correct a", 3, Reason::Later),
+        ("remove", 3, Reason::Later),
+        ("log x", 3, Reason::Later),
+        ("sig x y z at 0", 3, Reason::Later),
+        ("sig 0 1 0 in 0", 3, Reason::Fields),
+        ("sig 0 1 0 at", 3, Reason::Fields),
+        ("append a 0 2", 3, Reason::Fields),
+        ("append 1 x 2", 3, Reason::Fields),
+        ("append 1 x 2 -", 3, Reason::Name),
+        ("append a x 2 -", 3, Reason::Time),
+        ("append a 65536 2 3", 3, Reason::Time),
+        ("append a 0 2 -", 3, Reason::Number),
+        ("append a 0 2 9223372036854775808", 3, Reason::Number),
+        ("sig x 0 x", 3, Reason::Time),
+        ("sig 0 65537 17", 3, Reason::Time),
+        ("sig 2 1 x", 3, Reason::Number),
+        ("sig 2 1 0", 3, Reason::Interval),
+        ("sig 2 1 17", 3, Reason::Interval),
+        ("sig 0 65536 17", 3, Reason::Resolution),
+        ("# x\n \nsig 0 1 17\nappend a 0 2", 5, Reason::Resolution),
+        ("append a 0 2 3\nappend a 0 2\nsig 2 1 0", 4, Reason::Fields),
+    ] {
+        let script = format!(in rt.alloc(); "shape 2 2\nsession 1\n{text}\n")?;
+        assert_eq!(rt;
+            fault_of(rt.alloc(), script.as_bytes()),
+            Some(ScriptFault::Line(line, reason)),
+            "{text}"
+        );
+    }
+    Ok(())
+}
+
+#[test]
+fn limits(rt: HostRuntime) -> Result<(), Fail> {
+    // The widest shapes have 2 and 1,885 words.
+    let narrow = "shape 1 1\nsession 1\n";
+    let wide = "shape 12 3\nsession 1\n";
+    let row = "append a 0 1 1 1 1 1 1 1 1 1 1 1 1\n";
+    for (head, line, count, fault) in [
+        (
+            "",
+            "\n",
+            4_194_304,
+            Some(ScriptFault::Line(4_194_305, Reason::End)),
+        ),
+        ("", "\n", 4_194_305, Some(ScriptFault::Size)),
+        (narrow, "sig 0 0 0\n", 65_536, None),
+        (
+            narrow,
+            "sig 0 0 0\n",
+            65_537,
+            Some(ScriptFault::Line(65_539, Reason::Commands)),
+        ),
+        (wide, row, 4_244, None),
+        (
+            wide,
+            row,
+            4_245,
+            Some(ScriptFault::Line(4_247, Reason::Load)),
+        ),
+        (wide, "sig 0 0 0\n", 1_061, None),
+        (
+            wide,
+            "sig 0 0 0\n",
+            1_062,
+            Some(ScriptFault::Line(1_064, Reason::Answers)),
+        ),
+    ] {
+        let bytes = repeated(rt.alloc(), head, line, count)?;
+        assert_eq!(rt; fault_of(rt.alloc(), &bytes), fault, "{count} of {line}");
+    }
+    Ok(())
+}
+
+#[test]
+fn a_script(rt: HostRuntime) -> Result<(), Fail> {
+    let text =
+        "\t# \u{0}\r\nshape 2 2\r\n\n \t\nsession 1\n append  append 1/2 2\t-3\r\nappend b 65535 -0 00\n#\nsig 0 65536 16";
+    let script = read_script(rt.alloc(), text.as_bytes())
+        .ok()
+        .ok_or("refused")?;
+    let shape = script.shape();
+    assert_eq!(rt; (shape.width(), shape.depth()), (2, 2));
+    assert_eq!(rt; script.sessions().len(), 1);
+    let commands = script.sessions()[0].list();
+    assert_eq!(rt; commands.len(), 3);
+    for (command, bytes, due, entries) in [
+        (&commands[0], "append", 32_768, [2, -3]),
+        (&commands[1], "b", 4_294_901_760, [0, 0]),
+    ] {
+        let Command::Edit(Edit::Append { name, tick, x }) = command else {
+            return Err(Fail::from("no edit"));
+        };
+        assert_eq!(rt; name.list(), bytes.as_bytes());
+        assert_eq!(rt; *tick, due);
+        assert_eq!(rt; x.shape().depth(), 2);
+        assert_eq!(rt; x.part(1), entries.as_slice());
+    }
+    let Command::Ask(ask) = &commands[2] else {
+        return Err(Fail::from("no query"));
+    };
+    assert_eq!(rt;
+        (ask.from, ask.to, ask.r, ask.version),
+        (0, 4_294_967_296, 16, None)
+    );
+    assert_eq!(rt; ask.kind, Kind::Sig);
+    Ok(())
+}
