@@ -1,0 +1,82 @@
+-- Texts of words and levels.
+use Rattle.std.proofs.Common.{◌≡◌, ◌≢◌, ℕ, zero, suc, ◌+◌, ◌<◌, ◌≤◌, ◌^◌, refl, sym, ap, ap₂, ◌∙◌, arith, ℤ, pos, negsuc, List, [], ◌∷◌, ◌++◌, length, take, get_or}
+use Rattle.std.specs.Prelude.{map, flat_map, codes, All}
+use Rattle.std.specs.List.{join_with_byte}
+use Rattle.std.specs.Fmt.{decimal, signed_decimal}
+use Rattle.std.proofs.lemmas.List.{append-nil, take_more, flat_map_more}
+use Rattle.std.proofs.lemmas.List.Concat.{flat_map-append}
+use Rattle.std.proofs.lemmas.List.Elements.{All-head, All-tail, All-from_get_or}
+use Rattle.definitions.specs.Words.{Extent, IsWord, number, up_to, words_of, factorial}
+use Rattle.definitions.proofs.WordLists.{IsNumbered, length-words_of, word-numbered}
+use Rattle.scaled_tensor.specs.Tensors.{TensorValue, coefficient}
+use Rattle.session.specs.declared.answer.LookReply.{LookReply}
+use Rattle.session.specs.declared.answer.Answer.TheVariants.{Sig}
+use Rattle.session.specs.Play.{Due, Edited, Valued, Refused}
+use Rattle.session.specs.Answers.{HasSeries, Shows}
+use Rattle.answers.specs.Text.{word_text, term_text, level_text, levels_text, look_text, answer_text}
+
+-- a comma before each letter but the first
+pub letters-joined : (a : ℕ) (word : List ℕ) → join_with_byte 44 (map decimal (a ∷ word)) ≡ decimal a ++ flat_map (λ b. 44 ∷ decimal b) word
+letters-joined a [] = sym (append-nil (decimal a))
+letters-joined a (b ∷ word) = ap (λ rest. decimal a ++ 44 ∷ rest) (letters-joined b word)
+
+-- a coefficient that isn't 0 is printed
+pub term-shown : (name : List ℕ) (value : ℤ) → value ≢ pos 0 → term_text name value ≡ codes " " ++ name ++ codes "=" ++ signed_decimal value
+term-shown name (pos zero) h = absurd (h refl)
+term-shown name (pos (suc n)) h = refl
+term-shown name (negsuc n) h = refl
+
+-- the terms of some words
+abbrev pub terms_text : (List ℕ → ℤ) → List (List ℕ) → List ℕ
+terms_text series words = flat_map (λ word. term_text (word_text word) (series word)) words
+
+-- one word more
+pub terms-more : (width k i : ℕ) (values : ℕ → ℤ) (start text next : List ℕ) → i < width ^ k
+    → text ≡ start ++ terms_text (λ word. values (number width word)) (take i (words_of width k))
+    → next ≡ text ++ term_text (word_text (get_or (words_of width k) i [])) (values i)
+    → next ≡ start ++ terms_text (λ word. values (number width word)) (take (i + 1) (words_of width k))
+terms-more width k i values start text next h before step =
+    let word : List ℕ = get_or (words_of width k) i [] in
+    let term : List ℕ → List ℕ = λ w. term_text (word_text w) (values (number width w)) in
+    let its : IsNumbered width k i (get_or (words_of width k) i []) = word-numbered width k i h in
+    step
+    ∙ ap₂ (λ (t : List ℕ) (n : ℕ). t ++ term_text (word_text word) (values n)) before (sym its.number_is)
+    ∙ flat_map_more term start (take i (words_of width k)) word
+    ∙ ap (λ ws. start ++ flat_map term ws) (sym (take_more (words_of width k) i [] (omega (arith, length-words_of width k))))
+
+terms-same-each : (f g : List ℕ → ℤ) (words : List (List ℕ)) → All (λ word. f word ≡ g word) words → terms_text f words ≡ terms_text g words
+terms-same-each f g [] h = refl
+terms-same-each f g (word ∷ words) h =
+    ap₂ (λ (z : ℤ) (rest : List ℕ). term_text (word_text word) z ++ rest) (All-head (λ w. f w ≡ g w) word words h) (terms-same-each f g words (All-tail (λ w. f w ≡ g w) word words h))
+
+-- only the words of the extent count
+pub terms-same : (extent : Extent) (f g : List ℕ → ℤ) (k : ℕ) → k ≤ extent.depth → ((word : List ℕ) → IsWord extent word → length word ≡ k → f word ≡ g word)
+    → terms_text f (words_of extent.width k) ≡ terms_text g (words_of extent.width k)
+terms-same extent f g k h same =
+    terms-same-each f g (words_of extent.width k) (All-from_get_or (λ word. f word ≡ g word) (words_of extent.width k) []
+    (λ i lt.
+    let its : IsNumbered extent.width k i (get_or (words_of extent.width k) i []) = word-numbered extent.width k i (omega (arith, length-words_of extent.width k)) in
+    same (get_or (words_of extent.width k) i []) (record { short = omega (arith, its.len); letters = its.letters }) its.len))
+
+levels-same-up-to : (extent : Extent) (f g : List ℕ → ℤ) (k : ℕ) → k ≤ extent.depth → ((word : List ℕ) → IsWord extent word → f word ≡ g word)
+    → flat_map (level_text extent f) (up_to k) ≡ flat_map (level_text extent g) (up_to k)
+levels-same-up-to extent f g zero h same = refl
+levels-same-up-to extent f g (suc k) h same =
+    let terms : terms_text f (words_of extent.width (suc k)) ≡ terms_text g (words_of extent.width (suc k)) = terms-same extent f g (suc k) h (λ word is _. same word is) in
+    flat_map-append (level_text extent f) (up_to k) (suc k ∷ [])
+    ∙ ap₂ (λ (front : List ℕ) (terms : List ℕ). front ++ (codes "level " ++ decimal (suc k) ++ codes " over " ++ decimal (factorial (suc k)) ++ terms ++ codes "\n" ++ [])) (levels-same-up-to extent f g k (omega arith) same) terms
+    ∙ sym (flat_map-append (level_text extent g) (up_to k) (suc k ∷ []))
+
+-- a tensor has the levels of its series
+levels-same : (extent : Extent) (tensor : TensorValue) (series : List ℕ → ℤ) → HasSeries extent tensor series
+    → levels_text tensor.extent (coefficient tensor) ≡ levels_text extent series
+levels-same extent tensor series has =
+    ap (λ (e : Extent). levels_text e (coefficient tensor)) has.extent_is
+    ∙ levels-same-up-to extent (coefficient tensor) series extent.depth (omega arith) has.coefficients
+
+-- the text of a signature is the one that is due
+pub signature-shown : (extent : Extent) (c : ℕ) (reply : LookReply) (tensor : TensorValue) (due : Due) → Shows extent (Sig reply tensor) due
+    → decimal c ++ look_text reply ++ levels_text tensor.extent (coefficient tensor) ≡ answer_text extent c due
+signature-shown extent c reply tensor (Edited r) h = absurd h
+signature-shown extent c reply tensor (Valued r series) h = ap₂ (λ (r : LookReply) (levels : List ℕ). decimal c ++ look_text r ++ levels) h.0 (levels-same extent tensor series h.1)
+signature-shown extent c reply tensor (Refused r) h = absurd h

@@ -1,0 +1,3 @@
+mod Examples
+pub mod LevelTexts
+pub mod NumberedTexts

@@ -1,0 +1,9 @@
+//! The text that a run writes.
+#![tactic(auto)]
+
+mod levels;
+#[cfg(test)]
+mod tests;
+mod text;
+
+pub use text::text_of;

@@ -1,0 +1,34 @@
+-- When an answer that is kept, whose signature is a tensor, is the one that is due.
+use Rattle.std.specs.Prelude.{◌≡◌, ℕ, List, [], ◌∷◌, ℤ}
+use Rattle.definitions.specs.Words.{Extent, IsWord}
+use Rattle.scaled_tensor.specs.Tensors.{TensorValue, coefficient}
+use Rattle.session.specs.declared.answer.Answer.{Answer}
+use Rattle.session.specs.declared.answer.Answer.TheVariants as answers
+use Rattle.session.specs.declared.answer.Outcome.{Outcome}
+use Rattle.session.specs.Play.{Due, Edited, Valued, Refused, DueOutcome}
+
+-- the tensor has these coefficients at the words of the extent
+pub record HasSeries (extent : Extent) (tensor : TensorValue) (series : List ℕ → ℤ) : Type 0 where
+  pub extent_is : tensor.extent ≡ extent
+  pub coefficients : (word : List ℕ) → IsWord extent word → coefficient tensor word ≡ series word
+
+abbrev pub Shows : Extent → Answer → Due → Type 0
+Shows extent (answers.Edit reply) (Edited due) = reply ≡ due
+Shows extent (answers.Sig reply tensor) (Valued due series) = (reply ≡ due) × HasSeries extent tensor series
+Shows extent (answers.Refused reply) (Refused due) = reply ≡ due
+Shows extent _ _ = ⊥
+
+abbrev pub ShowsEach : Extent → List Answer → List Due → Type 0
+ShowsEach extent [] [] = Unit {0}
+ShowsEach extent (answer ∷ answers) (due ∷ dues) = Shows extent answer due × ShowsEach extent answers dues
+ShowsEach extent _ _ = ⊥
+
+abbrev pub ShowsAll : Extent → List (List Answer) → List (List Due) → Type 0
+ShowsAll extent [] [] = Unit {0}
+ShowsAll extent (transcript ∷ transcripts) (dues ∷ all) = ShowsEach extent transcript dues × ShowsAll extent transcripts all
+ShowsAll extent _ _ = ⊥
+
+-- the outcome is the one that is due
+pub record IsOutcome (extent : Extent) (outcome : Outcome) (due : DueOutcome) : Type 0 where
+  pub transcripts : ShowsAll extent outcome.transcripts.items due.transcripts
+  pub versions : outcome.versions ≡ due.versions
