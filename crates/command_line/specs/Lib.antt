@@ -1,0 +1,4 @@
+pub mod Gathered
+pub mod Settings
+pub mod Values
+pub mod Wishes

@@ -1,0 +1,17 @@
+//! The words of a command line, and what they wish.
+#![tactic(auto)]
+
+mod gathered;
+pub mod laws;
+mod read;
+mod setting;
+#[cfg(test)]
+mod tests;
+mod values;
+pub mod wish;
+
+pub use gathered::CAPACITY;
+pub use read::read_words;
+pub use setting::{MOST_CAPACITY, MOST_COMMANDS};
+pub use values::MOST_SESSION;
+pub use wish::{Form, OrderList, Wish};
