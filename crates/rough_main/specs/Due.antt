@@ -1,0 +1,73 @@
+-- What a run is due: a status and a text, from the words of the command line and the bytes of the script.
+use Rattle.std.specs.Prelude.{◌≡◌, ◌⊎◌, ℕ, List, [], ◌++◌, codes, Option, Some, None, Result, Ok, Err}
+use Rattle.std.specs.Fmt.{decimal}
+use Rattle.command_line.specs.declared.wish.Form.TheVariants as form
+use Rattle.command_line.specs.declared.wish.Wish.{Wish}
+use Rattle.command_line.specs.declared.wish.Wish.TheVariants as wishes
+use Rattle.command_line.specs.Wishes.{wish_of}
+use Rattle.script_reader.specs.declared.fault.Reason.{Reason}
+use Rattle.script_reader.specs.declared.fault.Reason.TheVariants.{Byte, Keyword, Place, Later, Fields, Name, Time, Number, Width, Depth, Words, Session, Interval, Resolution, Commands, Load, Answers, End}
+use Rattle.script_reader.specs.declared.fault.ScriptFault.{ScriptFault}
+use Rattle.script_reader.specs.declared.fault.ScriptFault.TheVariants.{Size, Line, Memory}
+use Rattle.script_reader.specs.Script.{ScriptValue, parse}
+use Rattle.session.specs.Play.{due_outcome}
+use Rattle.answers.specs.Text.{outcome_text}
+
+pub record DueReply : Type 0 where
+  pub status : ℕ
+  pub text : List ℕ
+
+abbrev pub reason_text : Reason → List ℕ
+reason_text Byte = codes "byte"
+reason_text Keyword = codes "keyword"
+reason_text Place = codes "place"
+reason_text Later = codes "later"
+reason_text Fields = codes "fields"
+reason_text Name = codes "name"
+reason_text Time = codes "time"
+reason_text Number = codes "number"
+reason_text Width = codes "width"
+reason_text Depth = codes "depth"
+reason_text Words = codes "words"
+reason_text Session = codes "session"
+reason_text Interval = codes "interval"
+reason_text Resolution = codes "resolution"
+reason_text Commands = codes "commands"
+reason_text Load = codes "load"
+reason_text Answers = codes "answers"
+reason_text End = codes "end"
+
+abbrev pub line_text : ℕ → Reason → List ℕ
+line_text n reason = codes "fault line " ++ decimal n ++ codes " " ++ reason_text reason ++ codes "\n"
+
+-- want of memory has no text
+abbrev pub fault_text : ScriptFault → List ℕ
+fault_text Size = codes "fault size\n"
+fault_text (Line n reason) = line_text n reason
+fault_text Memory = []
+
+-- the answers of an accepted script, or why it is refused
+abbrev pub script_reply : Result ScriptValue ScriptFault → DueReply
+script_reply (Ok script) = record { status = 0; text = outcome_text script.extent (due_outcome script) }
+script_reply (Err fault) = record { status = 3; text = fault_text fault }
+
+-- why a wish is refused before anything is read: the words are wrong, or what they wish is not built yet
+abbrev pub refusal_of : Wish → Option (List ℕ)
+refusal_of (wishes.Threads capacity form.Text) = None
+refusal_of wishes.Refused = Some (codes "fault words\n")
+refusal_of _ = Some (codes "fault later\n")
+
+abbrev pub refused_or : Option (List ℕ) → List ℕ → DueReply
+refused_or (Some text) bytes = record { status = 2; text = text }
+refused_or None bytes = script_reply (parse bytes)
+
+abbrev pub due_reply : List (List ℕ) → List ℕ → DueReply
+due_reply words bytes = refused_or (refusal_of (wish_of words)) bytes
+
+-- a status and a text are the ones that are due
+abbrev pub IsReply : ℕ → List ℕ → DueReply → Type 0
+IsReply status text due = (status ≡ due.status) × (text ≡ due.text)
+
+-- the statuses with which a whole reply is written
+abbrev pub IsAnswer : ℕ → Type 0
+IsAnswer status = (status ≡ 0) ⊎ (status ≡ 2) ⊎ (status ≡ 3)

@@ -1,0 +1,41 @@
+//! The text of a refusal.
+ghost use Rattle.std.specs.Prelude.{◌≡◌, IfOk};
+ghost use Rattle.rough_main.specs.Due.{reason_text, line_text as due_line};
+
+use script_reader::Reason;
+use std::alloc::Global;
+use words::Memory;
+
+/// The word for a reason.
+fn reason_name(reason: Reason) -> &'static str
+    ensures { result.now ≡ reason_text reason }
+{
+    match reason {
+        Reason::Byte => "byte",
+        Reason::Keyword => "keyword",
+        Reason::Place => "place",
+        Reason::Later => "later",
+        Reason::Fields => "fields",
+        Reason::Name => "name",
+        Reason::Time => "time",
+        Reason::Number => "number",
+        Reason::Width => "width",
+        Reason::Depth => "depth",
+        Reason::Words => "words",
+        Reason::Session => "session",
+        Reason::Interval => "interval",
+        Reason::Resolution => "resolution",
+        Reason::Commands => "commands",
+        Reason::Load => "load",
+        Reason::Answers => "answers",
+        Reason::End => "end",
+    }
+}
+
+/// Names the first bad line and its reason.
+pub fn line_text(alloc: Global, line: u64, reason: Reason) -> Result<Vec<u8>, Memory>
+    ensures { IfOk result (λ text. text.items ≡ due_line line reason) }
+{
+    let name = reason_name(reason);
+    Ok(format!(in alloc; "fault line {line} {name}\n")?.into_bytes())
+}

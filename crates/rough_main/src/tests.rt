@@ -1,0 +1,278 @@
+use crate::rough_plain;
+use rough_io::{MemorySink, MemorySource};
+use std::alloc::Global;
+use std::test::Fail;
+
+/// Scripts with their answers.
+const ANSWERED: [(&str, &str); 8] = [
+    // one row
+    (
+        "shape 2 2\n\
+session 1\n\
+append a 0 2 3\n\
+sig 0 1 0\n",
+        "shape 2 2\n\
+session 1\n\
+1 done 1\n\
+2 sig version 1\n\
+level 1 over 1 (1)=2 (2)=3\n\
+level 2 over 2 (1,1)=4 (1,2)=6 (2,1)=6 (2,2)=9\n\
+versions 1\n",
+    ),
+    // two rows in the order of time
+    (
+        "shape 2 2\n\
+session 1\n\
+append a 0 1 0\n\
+append b 1/2 0 1\n\
+sig 0 1 0\n",
+        "shape 2 2\n\
+session 1\n\
+1 done 1\n\
+2 done 2\n\
+3 sig version 2\n\
+level 1 over 1 (1)=1 (2)=1\n\
+level 2 over 2 (1,1)=1 (1,2)=2 (2,2)=1\n\
+versions 2\n",
+    ),
+    // an empty interval
+    (
+        "shape 2 2\n\
+session 1\n\
+append a 0 2 3\n\
+sig 1 1 0\n",
+        "shape 2 2\n\
+session 1\n\
+1 done 1\n\
+2 sig version 1\n\
+level 1 over 1\n\
+level 2 over 2\n\
+versions 1\n",
+    ),
+    // ends rounded down
+    (
+        "shape 1 1\n\
+session 1\n\
+append a 3/4 5\n\
+sig 0 1/2 0\n\
+sig 1/4 1 0\n",
+        "shape 1 1\n\
+session 1\n\
+1 done 1\n\
+2 sig version 1\n\
+level 1 over 1\n\
+3 sig version 1\n\
+level 1 over 1 (1)=5\n\
+versions 1\n",
+    ),
+    // the greatest weight that fits
+    (
+        "shape 1 8\n\
+session 1\n\
+append a 0 60096\n\
+sig 0 1 0\n",
+        "shape 1 8\n\
+session 1\n\
+1 done 1\n\
+2 sig version 1\n\
+level 1 over 1 (1)=60096\n\
+level 2 over 2 (1,1)=3611529216\n\
+level 3 over 6 (1,1,1)=217038459764736\n\
+level 4 over 24 (1,1,1,1)=13043143278021574656\n\
+level 5 over 120 (1,1,1,1,1)=783840738435984550526976\n\
+level 6 over 720 (1,1,1,1,1,1)=47105693017048927548469149696\n\
+level 7 over 5040 (1,1,1,1,1,1,1)=2830863727552572349952802020130816\n\
+level 8 over 40320 (1,1,1,1,1,1,1,1)=170123586570999387942763590201781518336\n\
+versions 1\n",
+    ),
+    // the least weight that does not
+    (
+        "shape 1 8\n\
+session 1\n\
+append a 0 60097\n\
+sig 0 1 0\n",
+        "shape 1 8\n\
+session 1\n\
+1 done 1\n\
+2 overflow 60097\n\
+versions 1\n",
+    ),
+    // weights that fit apart and not together
+    (
+        "shape 1 8\n\
+session 1\n\
+append a 0 60096\n\
+append b 1 1\n\
+sig 0 1 0\n\
+sig 1 2 0\n\
+sig 0 2 0\n",
+        "shape 1 8\n\
+session 1\n\
+1 done 1\n\
+2 done 2\n\
+3 sig version 2\n\
+level 1 over 1 (1)=60096\n\
+level 2 over 2 (1,1)=3611529216\n\
+level 3 over 6 (1,1,1)=217038459764736\n\
+level 4 over 24 (1,1,1,1)=13043143278021574656\n\
+level 5 over 120 (1,1,1,1,1)=783840738435984550526976\n\
+level 6 over 720 (1,1,1,1,1,1)=47105693017048927548469149696\n\
+level 7 over 5040 (1,1,1,1,1,1,1)=2830863727552572349952802020130816\n\
+level 8 over 40320 (1,1,1,1,1,1,1,1)=170123586570999387942763590201781518336\n\
+4 sig version 2\n\
+level 1 over 1 (1)=1\n\
+level 2 over 2 (1,1)=1\n\
+level 3 over 6 (1,1,1)=1\n\
+level 4 over 24 (1,1,1,1)=1\n\
+level 5 over 120 (1,1,1,1,1)=1\n\
+level 6 over 720 (1,1,1,1,1,1)=1\n\
+level 7 over 5040 (1,1,1,1,1,1,1)=1\n\
+level 8 over 40320 (1,1,1,1,1,1,1,1)=1\n\
+5 overflow 60097\n\
+versions 2\n",
+    ),
+    // a name that is live
+    (
+        "shape 1 1\n\
+session 1\n\
+append a 0 5\n\
+append a 1 6\n",
+        "shape 1 1\n\
+session 1\n\
+1 done 1\n\
+2 name-taken 1\n\
+versions 1\n",
+    ),
+];
+
+const SCRIPT: &str = "shape 2 2\nsession 1\nappend a 0 2 3\nsig 0 1 0\n";
+
+const ANSWERS: &str =
+    "shape 2 2\nsession 1\n1 done 1\n2 sig version 1\nlevel 1 over 1 (1)=2 (2)=3\nlevel 2 over 2 (1,1)=4 (1,2)=6 (2,1)=6 (2,2)=9\nversions 1\n";
+
+/// How a run over memory ended.
+#[derive(Drop)]
+struct Ended {
+    status: u8,
+    written: String,
+    faults: (u64, u64),
+}
+
+/// Runs a script that is read nine bytes at a time and answered seven bytes at a time, where the reads and
+/// writes of these numbers fail.
+fn run_over_memory(
+    alloc: Global,
+    words: &[&str],
+    script: &str,
+    reads: &[u64],
+    writes: &[u64],
+) -> Result<Ended, Fail> {
+    let bytes = Vec::from_slice(alloc, script.as_bytes())?;
+    let mut source = MemorySource::new(bytes, 9, Vec::from_slice(alloc, reads)?);
+    let mut sink = MemorySink::new(alloc, 4096, 7, Vec::from_slice(alloc, writes)?)?;
+    let mut line = Vec::new(alloc);
+    for word in words {
+        line.push(String::from_str(alloc, word)?)?;
+    }
+    let status = rough_plain(alloc, &line, &mut source, &mut sink);
+    Ok(Ended {
+        status,
+        written: String::from_utf8(Vec::from_slice(alloc, sink.written())?)?,
+        faults: (source.faults(), sink.faults()),
+    })
+}
+
+#[test]
+fn scripts_are_answered(rt: HostRuntime) -> Result<(), Fail> {
+    for (script, answers) in ANSWERED {
+        let run = run_over_memory(rt.alloc(), &[], script, &[], &[])?;
+        assert_eq!(rt; run.status, 0);
+        assert_eq!(rt; run.written.as_str(), answers);
+    }
+    Ok(())
+}
+
+#[test]
+fn scripts_are_refused(rt: HostRuntime) -> Result<(), Fail> {
+    for (script, refusal) in [
+        ("shape 13 2\n", "fault line 1 width\n"),
+        ("shape 2 9\n", "fault line 1 depth\n"),
+        ("shape 7 4\n", "fault line 1 words\n"),
+        (
+            "shape 2 2\nsession 1\nappend a 0 2 -\n",
+            "fault line 3 number\n",
+        ),
+        (
+            "shape 2 2\nsession 1\nappend a 0 2\n",
+            "fault line 3 fields\n",
+        ),
+        (
+            "shape 2 2\nsession 1\nsig 2 1 0\n",
+            "fault line 3 interval\n",
+        ),
+        ("shape 2 2\nsession 1\nremove a\n", "fault line 3 later\n"),
+        ("", "fault line 1 end\n"),
+    ] {
+        let run = run_over_memory(rt.alloc(), &[], script, &[], &[])?;
+        assert_eq!(rt; run.status, 3);
+        assert_eq!(rt; run.written.as_str(), refusal);
+    }
+    Ok(())
+}
+
+#[test]
+fn each_read_may_fail(rt: HostRuntime) -> Result<(), Fail> {
+    // Five reads of nine bytes, and one that finds the end.
+    for read in 1..=6u64 {
+        let run = run_over_memory(rt.alloc(), &[], SCRIPT, &[read], &[])?;
+        assert_eq!(rt; run.status, 4, "at read {read}");
+        assert_eq!(rt; run.written.as_str(), "");
+        assert_eq!(rt; run.faults, (1, 0));
+    }
+    assert_eq!(rt;
+        run_over_memory(rt.alloc(), &[], SCRIPT, &[7], &[])?.status,
+        0
+    );
+    Ok(())
+}
+
+#[test]
+fn each_write_may_fail(rt: HostRuntime) -> Result<(), Fail> {
+    // Nineteen writes of seven bytes.
+    for write in 1..=19u64 {
+        let run = run_over_memory(rt.alloc(), &[], SCRIPT, &[], &[write])?;
+        assert_eq!(rt; run.status, 5, "at write {write}");
+        assert!(rt; ANSWERS.starts_with(run.written.as_str()));
+        assert_eq!(rt; run.written.len() as u64, 7 * (write - 1));
+        assert_eq!(rt; run.faults, (0, 1));
+    }
+    assert_eq!(rt;
+        run_over_memory(rt.alloc(), &[], SCRIPT, &[], &[20])?.status,
+        0
+    );
+    Ok(())
+}
+
+#[test]
+fn words_are_answered_unread(rt: HostRuntime) -> Result<(), Fail> {
+    for (words, refusal) in [
+        (["--cache", "0"].as_slice(), "fault words\n"),
+        (&["--order", "1,,1"], "fault words\n"),
+        (&["--order="], "fault words\n"),
+        (&["--json", "--json"], "fault words\n"),
+        (&["--gen", "8", "--json"], "fault words\n"),
+        (&["x"], "fault words\n"),
+        (&["--json"], "fault later\n"),
+        (&["--gen", "8"], "fault later\n"),
+        (&["--order", "1,1,1"], "fault later\n"),
+    ] {
+        // A read would fail.
+        let run = run_over_memory(rt.alloc(), words, SCRIPT, &[1], &[])?;
+        assert_eq!(rt; run.status, 2);
+        assert_eq!(rt; run.written.as_str(), refusal);
+    }
+    let run = run_over_memory(rt.alloc(), &["--cache", "5"], SCRIPT, &[], &[])?;
+    assert_eq!(rt; run.status, 0);
+    assert_eq!(rt; run.written.as_str(), ANSWERS);
+    Ok(())
+}
