@@ -1,0 +1,5 @@
+pub mod EntryLists
+pub mod Seats
+pub mod Taking
+pub mod Giving
+pub mod Passing
