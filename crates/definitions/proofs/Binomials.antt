@@ -2,7 +2,8 @@
 use Rattle.std.proofs.Common.{◌≡◌, ℕ, zero, suc, ◌+◌, ◌*◌, ◌-◌, ◌≤◌, ◌<◌, ◌^◌, refl, ap, ◌∙◌, arith}
 use Rattle.std.proofs.Math.Nat.{pow-suc, pow-zero, sub-zero, eq_of_mul-eq-mul_left, mul-pos}
 use Rattle.definitions.specs.Words.{binom, factorial}
-use Rattle.definitions.proofs.SumLaws.{count_below, count_below-add, count_below-mul, count_below-same, count_below-first}
+use Rattle.definitions.specs.Sums.{count_below}
+use Rattle.definitions.proofs.SumLaws.{count_below-add, count_below-mul, count_below-same, count_below-first}
 
 pub binom_above : (n k : ℕ) → n < k → binom n k ≡ 0
 binom_above n zero h = absurd (omega arith)

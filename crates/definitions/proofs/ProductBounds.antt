@@ -3,9 +3,9 @@ use Rattle.std.proofs.Common.{◌≡◌, ℕ, suc, ◌+◌, ◌*◌, ◌-◌, �
 use Rattle.std.proofs.Math.Nat.{mul-le-mul, mul-le-mul_left}
 use Rattle.std.proofs.lemmas.Int.{unsigned_abs-mul}
 use Rattle.definitions.specs.Words.{binom}
-use Rattle.definitions.specs.Sums.{sum_below}
+use Rattle.definitions.specs.Sums.{sum_below, count_below}
 use Rattle.definitions.specs.Products.{product_term, scaled_product}
-use Rattle.definitions.proofs.SumLaws.{count_below, count_below-le, count_below-part, term-le-count_below, abs-sum_below}
+use Rattle.definitions.proofs.SumLaws.{count_below-le, count_below-part, term-le-count_below, abs-sum_below}
 use Rattle.definitions.proofs.Binomials.{binomial, binomial_term}
 
 -- two factors for each i from 0 to k, bounded as the terms of the binomial theorem are

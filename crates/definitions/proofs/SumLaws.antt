@@ -3,13 +3,8 @@ use Rattle.std.proofs.Common.{◌≡◌, ℕ, zero, suc, ◌+◌, ◌*◌, ◌-�
 use Rattle.std.proofs.Math.Nat.{eq-or-lt_of_le}
 use Rattle.std.proofs.Math.IntN.{*ℤ_comm}
 use Rattle.std.proofs.lemmas.Int.{ints}
-use Rattle.definitions.specs.Sums.{sum_below}
+use Rattle.definitions.specs.Sums.{sum_below, count_below}
 use Rattle.definitions.proofs.Integers.{mul-add_ℤ, abs-add}
-
--- f 0 + .. + f (n - 1), of naturals
-unfoldable pub count_below : ℕ → (ℕ → ℕ) → ℕ
-count_below zero f = 0
-count_below (suc n) f = count_below n f + f n
 
 pub count_below-add : (n : ℕ) (f g : ℕ → ℕ) → count_below n (λ i. f i + g i) ≡ count_below n f + count_below n g
 unfolding count_below

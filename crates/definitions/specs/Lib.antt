@@ -4,3 +4,6 @@ pub mod Products
 pub mod Moves
 pub mod Signature
 pub mod Rows
+pub mod Logarithm
+pub mod Shuffles
+pub mod Commutators
