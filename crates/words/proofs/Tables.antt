@@ -1,15 +1,50 @@
--- The table of factorials is right, by computing it.
-use Rattle.std.proofs.Common.{◌≡◌, ℕ, zero, suc, ◌≤◌, refl, arith, [], ◌∷◌, get_or}
+-- The tables of numbers are right, by computing them.
+use Rattle.std.proofs.Common.{◌≡◌, ◌∙◌, ℕ, zero, suc, ◌≤◌, ◌*◌, refl, sym, ap, arith, true, List, [], ◌∷◌, get_or, map, nat_le}
+use Rattle.std.specs.List.{list_all}
+use Rattle.std.proofs.lemmas.Bool.{leb-true}
+use Rattle.std.proofs.lemmas.List.Sums.{AllPass-from_list_all}
 use Rattle.definitions.specs.Words.{factorial}
+use Rattle.definitions.specs.Sums.{count_below}
+use Rattle.definitions.specs.Logarithm.{lcm_to, log_bound}
+
+-- the places of a table
+abbrev pub places : List ℕ
+places = 0 ∷ 1 ∷ 2 ∷ 3 ∷ 4 ∷ 5 ∷ 6 ∷ 7 ∷ 8 ∷ []
+
+value-at : (f : ℕ → ℕ) (n : ℕ) → n ≤ 8 → get_or (map f places) n 0 ≡ f n
+value-at f zero h = refl
+value-at f (suc zero) h = refl
+value-at f (suc (suc zero)) h = refl
+value-at f (suc (suc (suc zero))) h = refl
+value-at f (suc (suc (suc (suc zero)))) h = refl
+value-at f (suc (suc (suc (suc (suc zero))))) h = refl
+value-at f (suc (suc (suc (suc (suc (suc zero)))))) h = refl
+value-at f (suc (suc (suc (suc (suc (suc (suc zero))))))) h = refl
+value-at f (suc (suc (suc (suc (suc (suc (suc (suc zero)))))))) h = refl
+value-at f (suc (suc (suc (suc (suc (suc (suc (suc (suc n))))))))) h = absurd (omega arith)
+
+-- an entry of the table of a function
+entry-is : (f : ℕ → ℕ) (table : List ℕ) → table ≡ map f places → (n : ℕ) → n ≤ 8 → get_or table n 0 ≡ f n
+entry-is f table e n h = ap (λ (xs : List ℕ). get_or xs n 0) e ∙ value-at f n h
 
 pub factorials-right : (n : ℕ) → n ≤ 8 → get_or (1 ∷ 1 ∷ 2 ∷ 6 ∷ 24 ∷ 120 ∷ 720 ∷ 5040 ∷ 40320 ∷ []) n 0 ≡ factorial n
-factorials-right zero h = refl
-factorials-right (suc zero) h = refl
-factorials-right (suc (suc zero)) h = refl
-factorials-right (suc (suc (suc zero))) h = refl
-factorials-right (suc (suc (suc (suc zero)))) h = refl
-factorials-right (suc (suc (suc (suc (suc zero))))) h = refl
-factorials-right (suc (suc (suc (suc (suc (suc zero)))))) h = refl
-factorials-right (suc (suc (suc (suc (suc (suc (suc zero))))))) h = refl
-factorials-right (suc (suc (suc (suc (suc (suc (suc (suc zero)))))))) h = refl
-factorials-right (suc (suc (suc (suc (suc (suc (suc (suc (suc n))))))))) h = absurd (omega arith)
+factorials-right = entry-is factorial _ refl
+
+pub least_multiples-right : (k : ℕ) → k ≤ 8 → get_or (1 ∷ 1 ∷ 2 ∷ 6 ∷ 12 ∷ 60 ∷ 60 ∷ 420 ∷ 840 ∷ []) k 0 ≡ lcm_to k
+least_multiples-right = entry-is lcm_to _ refl
+
+pub log_bounds-right : (k : ℕ) → k ≤ 8 → get_or (0 ∷ 1 ∷ 4 ∷ 36 ∷ 312 ∷ 9000 ∷ 64920 ∷ 3933720 ∷ 79452240 ∷ []) k 0 ≡ log_bound k
+unfolding log_bound count_below
+log_bounds-right = entry-is log_bound _ refl
+
+-- the values of a function at the places are at most this
+within-at : (f : ℕ → ℕ) (most : ℕ) → list_all (λ n. nat_le (f n) most) places ≡ true → (n : ℕ) → n ≤ 8 → f n ≤ most
+within-at f most e n h =
+    leb-true (f n) most
+    (ap (λ (k : ℕ). nat_le (f k) most) (sym (value-at (λ k. k) n h)) ∙ AllPass-from_list_all (λ k. nat_le (f k) most) places e n 0 (omega arith))
+
+pub log_den-within : (k : ℕ) → k ≤ 8 → factorial k * lcm_to k ≤ 33868800
+log_den-within = within-at (λ k. factorial k * lcm_to k) 33868800 refl
+
+pub lie_den-within : (k : ℕ) → k ≤ 8 → k * (factorial k * lcm_to k) ≤ 270950400
+lie_den-within = within-at (λ k. k * (factorial k * lcm_to k)) 270950400 refl

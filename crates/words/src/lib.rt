@@ -16,7 +16,7 @@ pub use bound::Bound;
 pub use entries::Entries;
 pub use memory::Memory;
 pub use moves::{Move, greatest_entry};
-pub use numbers::{binom, factorial, sig_den};
+pub use numbers::{binom, factorial, lcm_to, lie_den, log_bound, log_den, sig_den};
 pub use shape::{Shape, ShapeFault};
 pub use steps::{Free, Steps};
 pub use word::Word;

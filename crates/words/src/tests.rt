@@ -1,4 +1,6 @@
-use crate::{Bound, Entries, Move, Shape, ShapeFault};
+use crate::{
+    Bound, Entries, Move, Shape, ShapeFault, lcm_to, lie_den, log_bound, log_den, sig_den,
+};
 use std::test::Fail;
 
 #[test]
@@ -50,4 +52,19 @@ fn weights_that_fit(rt: HostRuntime) -> Result<(), Fail> {
     assert!(rt; bound.fits(60096));
     assert!(rt; !bound.fits(60097));
     Ok(())
+}
+
+#[test]
+fn denominators_and_bounds(rt: HostRuntime) {
+    for (k, [sig, lcm, log, lie, bound]) in [
+        (1, [1, 1, 1, 1, 1]),
+        (5, [120, 60, 7200, 36000, 9000]),
+        (8, [40320, 840, 33868800, 270950400, 79452240]),
+    ] {
+        assert_eq!(rt; sig_den(k), sig);
+        assert_eq!(rt; lcm_to(k), lcm);
+        assert_eq!(rt; log_den(k), log);
+        assert_eq!(rt; lie_den(k), lie);
+        assert_eq!(rt; log_bound(k), bound);
+    }
 }
