@@ -1,2 +1,3 @@
 pub mod TensorLaws
 pub mod PrefixLaws
+pub mod LogTensorLaws

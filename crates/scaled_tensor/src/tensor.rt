@@ -145,6 +145,7 @@ impl Tensor {
         requires { k ≤ self.now.extent.depth }
         ensures len { length result.now ≡ self.now.extent.width ^ k }
         ensures value { (word : List ℕ) → IsWord self.now.extent word → length word ≡ k → slice_index_or result.now (number self.now.extent.width word) (pos 0) ≡ coefficient self.now word }
+        ensures bound { All (λ z. unsigned_abs z ≤ limit) result.now }
     {
         let from = self.shape.before(k) as usize;
         let to = self.shape.before(k + 1) as usize;

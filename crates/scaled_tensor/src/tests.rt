@@ -1,4 +1,4 @@
-use crate::Tensor;
+use crate::{LogTensor, Tensor};
 use std::test::Fail;
 use words::{Memory, Shape};
 
@@ -24,5 +24,20 @@ fn equal_tensors(rt: HostRuntime) -> Result<(), Fail> {
     assert!(rt; unit.equal(&unit.copy(rt.alloc())?));
     assert!(rt; !unit.equal(&zero));
     assert!(rt; !unit.equal(&other_shape));
+    Ok(())
+}
+
+#[test]
+fn bounds_of_a_logarithm(rt: HostRuntime) -> Result<(), Fail> {
+    let shape = Shape::new(2, 1)?;
+    for weight in [0, 7, u128::MAX] {
+        let unit = Tensor::unit(rt.alloc(), shape)?;
+        let zero = Tensor::zero(rt.alloc(), shape)?;
+        assert!(rt; LogTensor::of(unit, weight).is_none());
+        let log = LogTensor::of(zero, weight).ok_or("refused")?;
+        assert_eq!(rt; log.weight(), weight);
+        assert_eq!(rt; log.tensor().level(0), [0].as_slice());
+        assert_eq!(rt; log.tensor().level(1), [0, 0].as_slice());
+    }
     Ok(())
 }
