@@ -65,13 +65,13 @@ HasCutRoom-same p q b word same room = record {
   summed = λ n h. subst (λ (z : ℤ). unsigned_abs z ≤ limit) (cut_sum-same p q b word n h same) (room.summed n h);
 }
 
-some-ways : (n k : ℕ) → k ≤ n → 1 ≤ binom n k
+pub some-ways : (n k : ℕ) → k ≤ n → 1 ≤ binom n k
 some-ways n zero h = omega arith
 some-ways zero (suc k) h = absurd (omega arith)
 some-ways (suc n) (suc k) h = omega (arith, some-ways n k (omega arith))
 
 -- a multiple is no smaller
-multiple : (n : ℕ) (z : ℤ) → 1 ≤ n → unsigned_abs z ≤ unsigned_abs (pos n *ℤ z)
+pub multiple : (n : ℕ) (z : ℤ) → 1 ≤ n → unsigned_abs z ≤ unsigned_abs (pos n *ℤ z)
 multiple n z some = omega (arith, unsigned_abs-mul (pos n) z, mul-le-mul_right (unsigned_abs z) some)
 
 room-by-factors : (p : ℕ → ℤ) (b : List ℕ → ℤ) (word : List ℕ) (v m : ℕ) → AreFactors v m (length word) p (λ i. b (drop i word)) → (v + m) ^ length word ≤ limit → HasCutRoom p b word

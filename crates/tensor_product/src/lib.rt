@@ -4,10 +4,11 @@
 mod extend;
 pub mod fault;
 pub mod laws;
-mod multiply;
+pub mod multiply;
 pub mod sig;
 #[cfg(test)]
 mod tests;
 
 pub use fault::ProductFault;
+pub use multiply::multiply_tensors;
 pub use sig::{Overflow, Sig, exp_row, extend_row, fitting, product};

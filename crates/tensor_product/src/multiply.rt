@@ -76,8 +76,10 @@ fn multiply_level(a: &Tensor, b: &Tensor, product: &mut Tensor, k: u32)
     }
 }
 
-/// Writes all coefficients, those of the shorter words first.
-pub(crate) fn multiply_all(a: &Tensor, b: &Tensor, product: &mut Tensor)
+/// Writes the scaled product of two tensors into a third one of their shape: at a word the sum,
+/// over all ways to cut it in two, of the binomial of the lengths times the coefficients of the
+/// parts. No step of these sums may leave the range of a coefficient. Takes no memory.
+pub fn multiply_tensors(a: &Tensor, b: &Tensor, product: &mut Tensor)
     requires shape { IsShape a.now.extent }
     requires same { b.now.extent ≡ a.now.extent }
     requires extent { product.old.extent ≡ a.now.extent }

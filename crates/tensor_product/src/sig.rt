@@ -7,7 +7,7 @@ ghost use Rattle.tensor_product.specs.Sigs.{SigValue, IsSig, StandsFor};
 
 use crate::extend::extend_all;
 use crate::fault::ProductFault;
-use crate::multiply::multiply_all;
+use crate::multiply::multiply_tensors;
 use scaled_tensor::Tensor;
 use std::alloc::Global;
 use std::marker::Model;
@@ -161,6 +161,6 @@ pub fn product(alloc: Global, a: &Sig, b: &Sig) -> Result<Sig, ProductFault>
     let shape = a.tensor().shape();
     let weight = fitting(shape, a.weight() + b.weight())?;
     let mut tensor = Tensor::zero(alloc, shape)?;
-    multiply_all(a.tensor(), b.tensor(), &mut tensor);
+    multiply_tensors(a.tensor(), b.tensor(), &mut tensor);
     Ok(Sig { tensor, weight })
 }

@@ -21,8 +21,8 @@ overflow_add-weight c =
       c.weight-2.ensures.value,
     )
 
-pub multiply_all-requires-clause-room : goal.multiply_all-requires-clause-room
-multiply_all-requires-clause-room c =
+pub multiply_tensors-requires-clause-room : goal.multiply_tensors-requires-clause-room
+multiply_tensors-requires-clause-room c =
     let a : SigValue = c.args.a.now in
     let b : SigValue = c.args.b.now in
     let sum : c.weight.result + c.weight-2.result ≡ a.weight + b.weight = ap₂ ◌+◌ c.weight.ensures.value c.weight-2.ensures.value in
@@ -41,17 +41,17 @@ invariant_of-result c =
     let extent : c.shape-shape.result ≡ a.tensor.extent = c.shape-shape.ensures.value ∙ ap (λ (t : TensorValue). t.extent) c.tensor.ensures.value in
     let fit : c.in_ok-weight.weight ^ a.tensor.extent.depth ≤ limit =
     subst (λ (n : ℕ). n ^ a.tensor.extent.depth ≤ limit) (sym c.in_ok-weight.ensures.0) (subst (λ (e : Extent). (c.weight.result + c.weight-2.result) ^ e.depth ≤ limit) extent c.in_ok-weight.ensures.1) in
-    let made : IsProduct a.tensor b.tensor c.multiply_all.new.product =
-    subst (λ (t : TensorValue). IsProduct t b.tensor c.multiply_all.new.product) c.tensor-2.ensures.value
-    (subst (λ (t : TensorValue). IsProduct c.tensor-2.result.now t c.multiply_all.new.product) c.tensor-3.ensures.value c.multiply_all.ensures) in
-    product-IsSig a b c.multiply_all.new.product c.in_ok-weight.weight c.weight.ensures.sig c.weight-2.ensures.sig c.requires made sum fit
+    let made : IsProduct a.tensor b.tensor c.multiply_tensors.new.product =
+    subst (λ (t : TensorValue). IsProduct t b.tensor c.multiply_tensors.new.product) c.tensor-2.ensures.value
+    (subst (λ (t : TensorValue). IsProduct c.tensor-2.result.now t c.multiply_tensors.new.product) c.tensor-3.ensures.value c.multiply_tensors.ensures) in
+    product-IsSig a b c.multiply_tensors.new.product c.in_ok-weight.weight c.weight.ensures.sig c.weight-2.ensures.sig c.requires made sum fit
 
 pub returns-clause-stands : goal.returns-clause-stands
 returns-clause-stands c = λ A B first second.
     let a : SigValue = c.args.a.now in
     let b : SigValue = c.args.b.now in
     let sum : c.in_ok-weight.weight ≡ a.weight + b.weight = c.in_ok-weight.ensures.0 ∙ ap₂ ◌+◌ c.weight.ensures.value c.weight-2.ensures.value in
-    let made : IsProduct a.tensor b.tensor c.multiply_all.new.product =
-    subst (λ (t : TensorValue). IsProduct t b.tensor c.multiply_all.new.product) c.tensor-2.ensures.value
-    (subst (λ (t : TensorValue). IsProduct c.tensor-2.result.now t c.multiply_all.new.product) c.tensor-3.ensures.value c.multiply_all.ensures) in
-    product-stands a b c.multiply_all.new.product c.in_ok-weight.weight A B c.requires made sum first second
+    let made : IsProduct a.tensor b.tensor c.multiply_tensors.new.product =
+    subst (λ (t : TensorValue). IsProduct t b.tensor c.multiply_tensors.new.product) c.tensor-2.ensures.value
+    (subst (λ (t : TensorValue). IsProduct c.tensor-2.result.now t c.multiply_tensors.new.product) c.tensor-3.ensures.value c.multiply_tensors.ensures) in
+    product-stands a b c.multiply_tensors.new.product c.in_ok-weight.weight A B c.requires made sum first second

@@ -1,7 +1,7 @@
 use Rattle.std.proofs.Common.{◌≡◌, suc, ap, arith}
 use Rattle.definitions.specs.Words.{Extent, shorter}
 use Rattle.tensor_product.proofs.MultiplyLaws.{product-all}
-use Rattle.tensor_product.proofs.multiply.multiply_all.Goals as goal
+use Rattle.tensor_product.proofs.multiply.multiply_tensors.Goals as goal
 
 pub returns : goal.returns
 returns c =
