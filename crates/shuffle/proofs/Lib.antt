@@ -1,0 +1,2 @@
+pub mod ShuffleSums
+pub mod DualLaws
