@@ -1,0 +1,65 @@
+ghost use Rattle.std.specs.Prelude.{◌≡◌, ◌<◌};
+
+use crate::{LogFault, log};
+use scaled_tensor::LogTensor;
+use std::marker::Brand;
+use std::process::Abort;
+use std::sync::ledger::{Blank, Ledger};
+use std::test::Fail;
+use tensor_product::{Overflow, Sig, extend_row};
+use words::{Shape, Steps};
+
+/// Extends a signature by rows, up to the first that does not fit.
+fn extend_rows<L: Ledger>(sig: &mut Sig, rows: &[&[i64]], blank: Blank) -> Result<(), Overflow>
+    requires name { blank.name ≡ L.name }
+    requires parts { blank.parts ≡ L.parts }
+    requires some { 0 < L.parts }
+{
+    let mut steps: Steps<L> = Steps::new(blank);
+    for row in rows {
+        if row.len() == sig.tensor().shape().width() as usize {
+            extend_row(sig, row, &mut steps)?;
+        }
+    }
+    Ok(())
+}
+
+fn levels_are(rt: &impl Abort, log: &LogTensor, expected: &[&[i128]]) {
+    let depth = log.tensor().shape().depth();
+    assert_eq!(rt; expected.len(), depth as usize + 1);
+    for k in 0..=depth {
+        assert_eq!(rt; log.tensor().level(k), expected[k as usize]);
+    }
+}
+
+#[test]
+fn two_rows(rt: HostRuntime) -> Result<(), Fail> {
+    let mut sig = Sig::unit(rt.alloc(), Shape::new(2, 2)?)?;
+    extend_rows::<Brand>(&mut sig, &[&[1, 0], &[0, 1]], Blank::new(1))?;
+    let log = log(rt.alloc(), &sig)?;
+    levels_are(&rt, &log, &[&[0], &[1, 1], &[0, 2, -2, 0]]);
+    assert_eq!(rt; log.weight(), 2);
+    Ok(())
+}
+
+#[test]
+fn greatest_row_of_one_letter(rt: HostRuntime) -> Result<(), Fail> {
+    let mut sig = Sig::unit(rt.alloc(), Shape::new(1, 8)?)?;
+    extend_rows::<Brand>(&mut sig, &[&[6184]], Blank::new(1))?;
+    let log = log(rt.alloc(), &sig)?;
+    levels_are(
+        &rt,
+        &log,
+        &[&[0], &[6184], &[0], &[0], &[0], &[0], &[0], &[0], &[0]],
+    );
+    assert_eq!(rt; log.weight(), 6184);
+    Ok(())
+}
+
+#[test]
+fn row_past_the_limit(rt: HostRuntime) -> Result<(), Fail> {
+    let mut sig = Sig::unit(rt.alloc(), Shape::new(1, 8)?)?;
+    extend_rows::<Brand>(&mut sig, &[&[6185]], Blank::new(1))?;
+    assert_eq!(rt; log(rt.alloc(), &sig).err(), Some(LogFault::Overflow(6185)));
+    Ok(())
+}
