@@ -1,0 +1,16 @@
+pub mod CommutatorLaws
+pub mod TermSums
+pub mod BracketTerms
+pub mod BracketEnds
+pub mod BracketExpansion
+pub mod Expansions
+pub mod ElementLaws
+pub mod ExpandSteps
+pub mod LevelSteps
+pub mod SumSteps
+pub mod EntryLaws
+pub mod NonzeroLaws
+pub mod Masses
+pub mod TableSteps
+pub mod PairOrder
+pub mod TableLoop

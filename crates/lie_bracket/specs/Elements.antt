@@ -1,0 +1,46 @@
+-- Lie elements as lists of terms, and when a list is one.
+use Rattle.std.specs.Prelude.{◌≢◌, ℕ, zero, suc, ◌<◌, ◌≤◌, List, All, AllPairs, map, length, slice_index_or, pos, unsigned_abs}
+use Rattle.definitions.specs.Moves.{greatest}
+use Rattle.definitions.specs.Signature.{limit}
+use Rattle.hall_set.specs.declared.member.Member.{Member}
+use Rattle.lie_bracket.specs.declared.term.Term.{Term}
+use Rattle.lie_bracket.specs.declared.fault.TermsFault.{TermsFault}
+use Rattle.lie_bracket.specs.declared.fault.TermsFault.TheVariants.{Place}
+use Rattle.lie_bracket.specs.Brackets.{term}
+
+pub record IsElement (terms : List Term) : Type 0 where
+  pub rising : AllPairs (λ s t. s.number < t.number) terms
+  pub numbers : All (λ t. 1 ≤ t.number) terms
+  pub some : All (λ t. t.factor ≢ pos 0) terms
+  pub in_range : All (λ t. unsigned_abs t.factor ≤ limit) terms
+
+-- the greatest absolute factor
+abbrev pub top : List Term → ℕ
+top terms = greatest (map (λ t. t.factor) terms)
+
+-- ---- which lists are refused
+abbrev pub term_at : List Term → ℕ → Term
+term_at terms i = slice_index_or terms i (term (pos 0) 0)
+
+-- the number at the place before, 0 before the first
+abbrev pub number_before : List Term → ℕ → ℕ
+number_before terms zero = 0
+number_before terms (suc i) = (term_at terms i).number
+
+-- a term may stand after one of the number `last`, among n members
+pub record IsGood (n last : ℕ) (t : Term) : Type 0 where
+  pub above : last < t.number
+  pub within : t.number ≤ n
+  pub some : t.factor ≢ pos 0
+  pub in_range : unsigned_abs t.factor ≤ limit
+
+abbrev pub IsGoodAt : ℕ → List Term → ℕ → Type 0
+IsGoodAt n terms i = IsGood n (number_before terms i) (term_at terms i)
+
+pub record IsFirstBad (n : ℕ) (terms : List Term) (i : ℕ) : Type 0 where
+  pub inside : i < length terms
+  pub bad : IsGoodAt n terms i → ⊥
+  pub before : (k : ℕ) → k < i → IsGoodAt n terms k
+
+abbrev pub IsRefusedBy : List Member → List Term → TermsFault → Type 0
+IsRefusedBy hall terms (Place i) = IsFirstBad (length hall) terms i

@@ -1,0 +1,5 @@
+pub mod Brackets
+pub mod Elements
+pub mod Expanding
+pub mod Entries
+pub mod Tables
