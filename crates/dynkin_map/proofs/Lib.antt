@@ -1,0 +1,13 @@
+pub mod RowLaws
+pub mod WordSums
+pub mod RowSums
+pub mod GrowthBounds
+pub mod CoordinateLaws
+pub mod Letters
+pub mod DynkinTheorem
+pub mod Factors
+pub mod CoordinateSteps
+pub mod LongerWords
+pub mod GrowthSums
+pub mod WordRows
+pub mod HeavyLevels

@@ -1,0 +1,4 @@
+pub mod Coordinates
+pub mod Rows
+pub mod Table
+pub mod Faults

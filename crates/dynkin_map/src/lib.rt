@@ -1,0 +1,16 @@
+//! The Dynkin map: Hall coordinates of Lie elements that are given as series.
+#![tactic(auto)]
+
+mod bounds;
+mod coordinates;
+pub mod fault;
+mod growths;
+mod images;
+mod rows;
+mod sums;
+pub mod table;
+#[cfg(test)]
+mod tests;
+
+pub use fault::LieFault;
+pub use table::DynkinTable;
