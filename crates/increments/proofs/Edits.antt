@@ -14,7 +14,7 @@ use Rattle.increments.specs.Edits.{RowsValue, is_named, row_of, tick_of, with_mo
 use Rattle.increments.proofs.Places.{found, passed, passes, stops, with_move-named, with_move-other, with_move-none, without-none}
 
 -- a name is live where a row has it
-is_live-row_of : (name : List ℕ) (rows : List RowValue) → is_live name rows ≡ is_some (row_of name rows)
+pub is_live-row_of : (name : List ℕ) (rows : List RowValue) → is_live name rows ≡ is_some (row_of name rows)
 is_live-row_of name [] = refl
 is_live-row_of name (r ∷ rows) =
     elim (cases_Bool (is_named name r)) [
@@ -71,11 +71,11 @@ module _ (P : RowValue → Type 0) where
       ]
 
   -- what holds of the rows, and of each with another move
-  pub All-with_move : (name : List ℕ) (x : Parts) (rows : List RowValue) → ((r : RowValue) → P (record r { x = x })) → All P rows → All P (with_move name x rows)
+  pub All-with_move : (name : List ℕ) (x : Parts) (rows : List RowValue) → ((r : RowValue) → P r → P (record r { x = x })) → All P rows → All P (with_move name x rows)
   All-with_move name x [] changed all = all
   All-with_move name x (r ∷ rows) changed all =
       let rest : All P (with_move name x rows) = All-with_move name x rows changed (All-tail P r rows all) in
       elim (cases_Bool (is_named name r)) [
-        | inl named ↦ (subst (All P) (sym (with_move-named name x r rows named)) (All-cons P (record r { x = x }) (with_move name x rows) (changed r) rest))
+        | inl named ↦ (subst (All P) (sym (with_move-named name x r rows named)) (All-cons P (record r { x = x }) (with_move name x rows) (changed r (All-head P r rows all)) rest))
         | inr other ↦ (subst (All P) (sym (with_move-other name x r rows other)) (All-cons P r (with_move name x rows) (All-head P r rows all) rest))
       ]

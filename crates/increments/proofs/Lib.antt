@@ -1,6 +1,8 @@
-mod Places
-mod Names
+pub mod Places
+pub mod Names
 mod Ties
 mod Ranges
-mod Edits
+pub mod Edits
 mod Order
+pub mod Joins
+mod Copies

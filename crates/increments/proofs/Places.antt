@@ -32,7 +32,7 @@ same_laws = eq_by_cmp_equiv place_total
 cmp-before : (a b c d : ℕ) → a < c → place_cmp (a, b) (c, d) ≡ Less
 cmp-before a b c d h = grind (arith, nat_tests)
 
-cmp-after : (a b c d : ℕ) → c ≤ a → d < b → place_cmp (a, b) (c, d) ≡ Greater
+cmp-after : (a b c d : ℕ) → c ≤ a → (c ≡ a → d < b) → place_cmp (a, b) (c, d) ≡ Greater
 cmp-after a b c d h k = grind (arith, nat_tests)
 
 pub passes : (row r : RowValue) (rows : List RowValue) → r.tick ≤ row.tick → with_row row (r ∷ rows) ≡ r ∷ with_row row rows
@@ -46,8 +46,8 @@ pub values_of-entries : (rows : List RowValue) → values_of (map entry_of rows)
 values_of-entries [] = refl
 values_of-entries (r ∷ rows) = ap (λ (rs : List RowValue). r ∷ rs) (values_of-entries rows)
 
--- a new row, which is younger than the others
-pub insert_entry-row : (row : RowValue) (rows : List RowValue) → All (λ (r : RowValue). r.birth < row.birth) rows
+-- a new row, which is younger than the others of its tick
+pub insert_entry-row : (row : RowValue) (rows : List RowValue) → All (λ (r : RowValue). r.tick ≡ row.tick → r.birth < row.birth) rows
     → insert_entry place_cmp (map entry_of rows) (place_of row) row ≡ map entry_of (with_row row rows)
 insert_entry-row row [] young = refl
 insert_entry-row row (r ∷ rows) young =
@@ -58,8 +58,8 @@ insert_entry-row row (r ∷ rows) young =
           ∙ ap (map entry_of) (sym (stops row r rows before))
       | inr after ↦
           ap (λ o. match_ordering o (entry_of row ∷ entry_of r ∷ map entry_of rows) ((place_of r, row) ∷ map entry_of rows) (entry_of r ∷ insert_entry place_cmp (map entry_of rows) (place_of row) row))
-          (cmp-after row.tick row.birth r.tick r.birth after (All-head (λ (q : RowValue). q.birth < row.birth) r rows young))
-          ∙ ap (λ es. entry_of r ∷ es) (insert_entry-row row rows (All-tail (λ (q : RowValue). q.birth < row.birth) r rows young))
+          (cmp-after row.tick row.birth r.tick r.birth after (All-head (λ (q : RowValue). q.tick ≡ row.tick → q.birth < row.birth) r rows young))
+          ∙ ap (λ es. entry_of r ∷ es) (insert_entry-row row rows (All-tail (λ (q : RowValue). q.tick ≡ row.tick → q.birth < row.birth) r rows young))
           ∙ ap (map entry_of) (sym (passes row r rows after))
     ]
 
@@ -102,12 +102,13 @@ with_move-named name x r rows h = ap (λ b. cond b (record r { x = x }) r ∷ wi
 pub with_move-other : (name : List ℕ) (x : Parts) (r : RowValue) (rows : List RowValue) → is_named name r ≡ false → with_move name x (r ∷ rows) ≡ r ∷ with_move name x rows
 with_move-other name x r rows h = ap (λ b. cond b (record r { x = x }) r ∷ with_move name x rows) h
 
-without-unnamed : (name other : List ℕ) (rows : List RowValue) → bytes_eq other name ≡ true → AllByRecursion (λ y. bytes_eq other y ≡ false) (names_in rows) → without name rows ≡ rows
+-- rows of other names stay
+pub without-unnamed : (name other : List ℕ) (rows : List RowValue) → bytes_eq other name ≡ true → AllByRecursion (λ y. bytes_eq other y ≡ false) (names_in rows) → without name rows ≡ rows
 without-unnamed name other [] same apart = refl
 without-unnamed name other (r ∷ rows) same apart =
     without-other name r rows (unnamed name other r.name same apart.0) ∙ ap (λ (rs : List RowValue). r ∷ rs) (without-unnamed name other rows same apart.1)
 
-with_move-unnamed : (name other : List ℕ) (x : Parts) (rows : List RowValue) → bytes_eq other name ≡ true → AllByRecursion (λ y. bytes_eq other y ≡ false) (names_in rows)
+pub with_move-unnamed : (name other : List ℕ) (x : Parts) (rows : List RowValue) → bytes_eq other name ≡ true → AllByRecursion (λ y. bytes_eq other y ≡ false) (names_in rows)
     → with_move name x rows ≡ rows
 with_move-unnamed name other x [] same apart = refl
 with_move-unnamed name other x (r ∷ rows) same apart =

@@ -1,6 +1,6 @@
 -- The two maps stay tied through each edit.
-use Rattle.std.proofs.Common.{◌≡◌, ◌∙◌, ◌<◌, ℕ, refl, sym, ap, subst, List, Option, None, Some, cond}
-use Rattle.std.specs.Prelude.{map, All, String}
+use Rattle.std.proofs.Common.{◌≡◌, ◌∙◌, ◌<◌, ℕ, refl, sym, ap, subst, List, [], Option, None, Some, cond}
+use Rattle.std.specs.Prelude.{map, All, String, string_bytes}
 use Rattle.std.specs.List.{IsDistinct}
 use Rattle.std.specs.Map.{lookup, remove_entry, set_value, update, keys_of, values_of}
 use Rattle.std.specs.HashMap.{HashMap, get_by_text}
@@ -19,6 +19,21 @@ use Rattle.increments.proofs.Names.{place_in-with_row, place_in-without, place_i
 pub no_place : (o : Option RowValue) → option_map place_of o ≡ None → o ≡ None
 no_place None none = refl
 no_place (Some row) none = absurd (cc)
+
+none_apart : IsDistinct bytes_eq []
+unfolding IsDistinct
+none_apart = tt
+
+-- maps of no rows
+pub tied-none : {Y S : Type 0} (rows : BTreeMap (ℕ × ℕ) RowValue) (names : HashMap (String Y) (ℕ × ℕ) S) → IsOrdered place_cmp rows → rows.entries ≡ [] → names.entries ≡ [] → AreTied rows names
+tied-none rows names ordered empty nameless =
+    let none : [] ≡ values rows = sym (ap values_of empty) in
+    record {
+      ordered = ordered;
+      placed = empty ∙ ap (map entry_of) none;
+      named = λ name. ap (lookup (λ k. bytes_eq name (string_bytes k))) nameless ∙ ap (place_in name) none;
+      apart = subst (λ (rs : List RowValue). IsDistinct bytes_eq (names_in rs)) none none_apart;
+    }
 
 -- what the maps have after an edit
 pub record Becomes {Y S : Type 0} (rows : BTreeMap (ℕ × ℕ) RowValue) (names : HashMap (String Y) (ℕ × ℕ) S) (list : List RowValue) : Type 0 where
@@ -40,7 +55,7 @@ module _ {Y S : Type 0} (rows new : BTreeMap (ℕ × ℕ) RowValue) (names after
       }
 
   -- a new row
-  pub becomes-with_row : (row : RowValue) → row_of row.name (values rows) ≡ None → All (λ (r : RowValue). r.birth < row.birth) (values rows) → IsOrdered place_cmp new
+  pub becomes-with_row : (row : RowValue) → row_of row.name (values rows) ≡ None → All (λ (r : RowValue). r.tick ≡ row.tick → r.birth < row.birth) (values rows) → IsOrdered place_cmp new
       → new.entries ≡ insert_entry place_cmp rows.entries (place_of row) row
       → ((name : List ℕ) → get_by_text after name ≡ update bytes_eq (get_by_text names) row.name (Some (place_of row)) name)
       → Becomes new after (with_row row (values rows))

@@ -8,8 +8,8 @@ use crate::fault::RowFault;
 use crate::name::Name;
 use crate::row::RowList;
 use crate::tables::{
-    ByName, ByPlace, copies_between, correct_row, count_between, insert_copy, place_at, remove_row,
-    weight_between,
+    ByName, ByPlace, copies_between, copy_tables, correct_row, count_between, insert_copy,
+    place_at, remove_row, weight_between,
 };
 use indexmap::IndexMap;
 use std::alloc::Global;
@@ -58,6 +58,18 @@ impl Rows {
         ensures order { IsInOrder self.now.rows }
     {
         self.shape
+    }
+
+    /// Equal rows.
+    pub fn copy(&self, alloc: Global) -> Result<Rows, Memory>
+        ensures { IfOk result (λ rows. rows ≡ self.now) }
+    {
+        let (rows, names) = copy_tables(alloc, &self.rows, &self.names)?;
+        Ok(Rows {
+            shape: self.shape,
+            rows,
+            names,
+        })
     }
 
     /// How many rows there are.

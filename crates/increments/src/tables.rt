@@ -29,7 +29,7 @@ pub fn place_at(rows: &ByPlace, names: &ByName, name: &str) -> Option<Place>
     names.get(name).copied()
 }
 
-/// A new row, whose birth is above every other and whose name isn't live.
+/// A new row, which is younger than the others of its tick and whose name isn't live.
 pub fn insert_row(
     rows: &mut ByPlace,
     names: &mut ByName,
@@ -41,7 +41,7 @@ pub fn insert_row(
     requires place { place ≡ place_of row }
     requires key { string_bytes key ≡ row.name }
     requires new { row_of row.name (values rows.old) ≡ None }
-    requires birth { All (λ r. r.birth < row.birth) (values rows.old) }
+    requires birth { All (λ r. r.tick ≡ row.tick → r.birth < row.birth) (values rows.old) }
     ensures ok { OnOk result (values rows.new ≡ with_row row (values rows.old)) }
     ensures err { OnErr result (values rows.new ≡ values rows.old) }
     ensures tied { AreTied rows.new names.new }
@@ -66,7 +66,7 @@ pub fn insert_copy(
 ) -> Result<(), Memory>
     requires tied { AreTied rows.old names.old }
     requires new { row_of name.now (values rows.old) ≡ None }
-    requires birth { All (λ r. r.birth < birth) (values rows.old) }
+    requires birth { All (λ r. r.tick ≡ tick → r.birth < birth) (values rows.old) }
     ensures ok { OnOk result (values rows.new ≡ with_row (record { name = name.now; tick = tick; birth = birth; x = x.now }) (values rows.old)) }
     ensures err { OnErr result (values rows.new ≡ values rows.old) }
     ensures tied { AreTied rows.new names.new }
@@ -74,6 +74,25 @@ pub fn insert_copy(
     let key = String::from_str(alloc, name.text())?;
     let row = Row::new(name.copy(alloc)?, tick, birth, x.copy(alloc)?);
     insert_row(rows, names, key, (tick, birth), row)
+}
+
+/// A new row that is equal to this one.
+pub fn insert_equal(
+    alloc: Global,
+    rows: &mut ByPlace,
+    names: &mut ByName,
+    row: &Row,
+) -> Result<(), Memory>
+    requires tied { AreTied rows.old names.old }
+    requires new { row_of row.now.name (values rows.old) ≡ None }
+    requires birth { All (λ r. r.tick ≡ row.now.tick → r.birth < row.now.birth) (values rows.old) }
+    ensures ok { OnOk result (values rows.new ≡ with_row row.now (values rows.old)) }
+    ensures err { OnErr result (values rows.new ≡ values rows.old) }
+    ensures tied { AreTied rows.new names.new }
+{
+    let key = String::from_str(alloc, row.name().text())?;
+    let place = (row.tick(), row.birth());
+    insert_row(rows, names, key, place, row.copy(alloc)?)
 }
 
 /// Another move for the row of a name, which answers its tick.
@@ -140,4 +159,22 @@ pub fn copies_between(
         list.push(row.copy(alloc)?)?;
     }
     Ok(RowList::of(list))
+}
+
+/// Equal maps.
+pub fn copy_tables(
+    alloc: Global,
+    rows: &ByPlace,
+    names: &ByName,
+) -> Result<(ByPlace, ByName), Memory>
+    requires { AreTied rows.now names.now }
+    ensures rows { IfOk result (λ copy. values copy.0 ≡ values rows.now) }
+    ensures tied { IfOk result (λ copy. AreTied copy.0 copy.1) }
+{
+    let mut places = BTreeMap::new(alloc);
+    let mut keys = IndexMap::new(alloc);
+    for (_place, row) in rows {
+        insert_equal(alloc, &mut places, &mut keys, row)?;
+    }
+    Ok((places, keys))
 }

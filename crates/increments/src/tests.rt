@@ -91,5 +91,8 @@ fn rows_between_ticks(rt: HostRuntime) -> Result<(), Fail> {
     assert_eq!(rt; rows.count_in(65535, 131072), 1);
     assert_eq!(rt; rows.weight_in(65535, 131072), 1);
     assert_eq!(rt; rows.weight_in(65535, 131073), 9);
+    let copy = rows.copy(alloc)?;
+    assert_eq!(rt; copy.len(), 2);
+    assert_eq!(rt; copy.tick_of(&name(alloc, "a")?), Some(65535));
     Ok(())
 }

@@ -12,7 +12,7 @@ invariant_of-self c =
     let move : IsMove c.self.inside.shape c.args.x = subst (λ (v : RowsValue). IsMove v.extent c.args.x) (sym c.self.view_is) c.requires in (
       c.correct_row.ensures.tied,
       subst (All (λ (row : RowValue). IsMove c.self.inside.shape row.x)) (sym c.correct_row.ensures.rows)
-          (All-with_move (λ (row : RowValue). IsMove c.self.inside.shape row.x) c.text.result.now c.args.x (values c.self.inside.rows) (λ r. move) c.self.invariant.1),
+          (All-with_move (λ (row : RowValue). IsMove c.self.inside.shape row.x) c.text.result.now c.args.x (values c.self.inside.rows) (λ r _. move) c.self.invariant.1),
     )
 
 pub returns-clause-live : goal.returns-clause-live
