@@ -1,0 +1,7 @@
+pub mod Replays
+mod Births
+mod Removals
+mod Committed
+pub mod TouchLaws
+pub mod DistinctNames
+pub mod Untouched

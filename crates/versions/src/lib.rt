@@ -1,0 +1,17 @@
+//! The edits of a stream, and its rows at each version.
+//!
+//! A version is the number of edits that were accepted before it. An accepted edit makes the next version, and no earlier one changes.
+#![tactic(auto)]
+
+pub mod edit;
+pub mod laws;
+pub mod log;
+mod replay;
+pub mod stream;
+#[cfg(test)]
+mod tests;
+mod touches;
+
+pub use edit::{Edit, EditReply};
+pub use log::{Accepted, EditLog};
+pub use stream::Stream;

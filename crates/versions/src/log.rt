@@ -1,0 +1,106 @@
+ghost use Rattle.std.specs.Prelude.{◌≡◌, ◌+◌, ◌<◌, ◌≤◌, ◌^◌, ℕ, [], ◌∷◌, ◌++◌, length, false, OnOk, OnErr, IfOk, IfSome, IfNone};
+ghost use Rattle.dyadic.specs.Nodes.{low_of, high_of};
+ghost use Rattle.versions.specs.Versions.{IsLog, IsEdit, IsAccepted, IsFirstTouch, current_rows, touched, rows_at as rows_at_version, since as since_version};
+
+use crate::edit::Edit;
+use crate::replay::replay;
+use crate::touches::{first_touch, last_touch};
+use dyadic::Node;
+use increments::Rows;
+use std::alloc::Global;
+use std::marker::Model;
+use words::{Memory, Shape};
+
+/// An edit that was accepted, with the tick of its row.
+#[derive(Drop)]
+pub struct Accepted {
+    pub edit: Edit,
+    pub tick: u64,
+}
+
+/// The accepted edits of a stream, seen as the list of them, with the shape of their moves.
+#[derive(Drop)]
+pub struct EditLog {
+    shape: Shape,
+    edits: Vec<Accepted>,
+}
+
+impl Model for EditLog {
+    ghost use Rattle.versions.specs.Versions.{LogValue, IsLog};
+
+    ghost Value = { LogValue };
+
+    ghost view = { λ l. record { extent = l.shape; edits = l.edits.items } };
+
+    ghost invariant = { λ l. IsLog (record { extent = l.shape; edits = l.edits.items }) };
+}
+
+impl EditLog {
+    /// No edits of rows with moves of this shape.
+    pub fn new(alloc: Global, shape: Shape) -> EditLog
+        ensures { result ≡ record { extent = shape; edits = [] } }
+    {
+        EditLog {
+            shape,
+            edits: Vec::new(alloc),
+        }
+    }
+
+    /// The shape of the moves.
+    pub fn shape(&self) -> Shape
+        ensures value { result ≡ self.now.extent }
+        ensures log { IsLog self.now }
+    {
+        self.shape
+    }
+
+    /// How many edits were accepted, which is the current version.
+    pub fn len(&self) -> u64
+        ensures value { result ≡ length self.now.edits }
+        ensures bound { result < 2 ^ 63 }
+        ensures log { IsLog self.now }
+    {
+        self.edits.len() as u64
+    }
+
+    /// A copy of this edit, which the current rows accept, is the last one from now on; its row has this tick.
+    /// Answers the version that it makes. Want of memory leaves the log as it was.
+    pub fn commit(&mut self, alloc: Global, e: &Edit, tick: u64) -> Result<u64, Memory>
+        requires edit { IsEdit self.old.extent e.now }
+        requires tick { tick < 2 ^ 32 }
+        requires accepted { IsAccepted (current_rows self.old.edits) (record { edit = e.now; tick = tick }) }
+        ensures ok { OnOk result (self.new ≡ record { extent = self.old.extent; edits = self.old.edits ++ (record { edit = e.now; tick = tick }) ∷ [] }) }
+        ensures version { IfOk result (λ v. v ≡ length self.old.edits + 1) }
+        ensures err { OnErr result (self.new ≡ self.old) }
+    {
+        let version = self.edits.len() as u64 + 1;
+        let edit = e.copy(alloc)?;
+        self.edits.push(Accepted { edit, tick })?;
+        Ok(version)
+    }
+
+    /// The rows of version v, made from the first v edits in O(v log v) steps.
+    pub fn rows_at(&self, alloc: Global, v: u64) -> Result<Rows, Memory>
+        requires { v ≤ length self.now.edits }
+        ensures { IfOk result (λ rows. rows ≡ record { extent = self.now.extent; rows = rows_at_version self.now.edits v }) }
+    {
+        replay(alloc, self.shape, &self.edits[..v as usize])
+    }
+
+    /// The last version from 1 to v whose edit has its tick in the node, or 0 where there is none.
+    pub fn since(&self, node: Node, v: u64) -> u64
+        requires { v ≤ length self.now.edits }
+        ensures { result ≡ since_version (low_of node) (high_of node) self.now.edits v }
+    {
+        last_touch(&self.edits, node, v)
+    }
+
+    /// The first version after v whose edit has its tick in the node, `None` where there is none.
+    pub fn touched_since(&self, v: u64, node: Node) -> Option<u64>
+        requires { v ≤ length self.now.edits }
+        ensures some { IfSome result (λ t. IsFirstTouch (low_of node) (high_of node) self.now.edits v t) }
+        ensures none { IfNone result ((t : ℕ) → v < t → t ≤ length self.now.edits → touched (low_of node) (high_of node) self.now.edits t ≡ false) }
+    {
+        first_touch(&self.edits, node, v)
+    }
+}
