@@ -1,0 +1,5 @@
+mod RowOrder
+mod RowWeights
+mod Halves
+mod Solutions
+mod PlanLists
