@@ -4,8 +4,8 @@ use Rattle.std.specs.Prelude.{codes, None, Ok, Err}
 use Rattle.script_reader.specs.declared.fault.Reason.TheVariants as reasons
 use Rattle.script_reader.specs.declared.fault.ScriptFault.TheVariants.{Line}
 use Rattle.script_reader.specs.declared.command.Command.TheVariants as commands
-use Rattle.script_reader.specs.declared.command.Edit.TheVariants as edit
-use Rattle.script_reader.specs.declared.command.Kind.TheVariants as kind
+use Rattle.versions.specs.declared.edit.Edit.TheVariants as edit
+use Rattle.script_reader.specs.declared.command.Kind.TheVariants as kinds
 use Rattle.script_reader.specs.Lines.{is_number, is_tick, are_entries, tick_or_zero}
 use Rattle.script_reader.specs.Script.{parse}
 
@@ -15,7 +15,7 @@ good = codes "shape 2 2" ++ 10 ∷ [] ++ codes "# a comment" ++ 10 ∷ [] ++ cod
 -- a script is read
 good_is : parse good ≡ Ok (record {
   extent = record { width = 2; depth = 2 };
-  sessions = (commands.Edit (edit.Append (codes "a") 32768 ((pos 2 ∷ neg_ℤ (pos 3) ∷ []) ∷ [] ∷ [])) ∷ commands.Ask (record { kind = kind.Sig; from = 0; to = 131072; r = 0; version = None }) ∷ []) ∷ [];
+  sessions = (commands.Edit (edit.Append (codes "a") 32768 ((pos 2 ∷ neg_ℤ (pos 3) ∷ []) ∷ [] ∷ [])) ∷ commands.Ask (record { kind = kinds.Sig; from = 0; to = 131072; r = 0; version = None }) ∷ []) ∷ [];
 })
 unfolding is_number is_tick are_entries tick_or_zero
 good_is = refl

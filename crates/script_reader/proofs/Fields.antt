@@ -3,7 +3,7 @@ use Rattle.std.proofs.Common.{◌≡◌, ℕ, ◌*◌, ◌≤◌, Bool, true, fa
 use Rattle.std.specs.List.{before_first, after_first}
 use Rattle.std.proofs.lemmas.Bool.Decides.{nat_tests}
 use Rattle.spellings.specs.Numbers.{is_plain, value_of, is_denominator, plain_up_to, whole_of, tick_up_to}
-use Rattle.script_reader.specs.Lines.{is_number, is_tick, are_entries, tick_or_zero}
+use Rattle.script_reader.specs.Lines.{is_number, is_version, is_tick, are_entries, tick_or_zero}
 use Rattle.script_reader.specs.Script.{entries_of}
 
 -- an answer that is there exactly where the test holds, and is then within a bound
@@ -50,10 +50,19 @@ chosen_is : (t : Bool) (v most : ℕ) → (t ≡ true → v ≤ most) → IsGive
 chosen_is true v most h = (refl, refl, h refl)
 chosen_is false v most h = refl
 
+value_is : (t : Bool) (v : ℕ) → MatchOption (if t then Some v else None) (is_some (if t then Some v else None) ≡ false) (λ x. (is_some (if t then Some v else None) ≡ true) × (x ≡ v))
+value_is true v = (refl, refl)
+value_is false v = refl
+
 -- the value of a number, or that the word is none
 pub number_is : (word : List ℕ) (n : Option ℕ) → n ≡ plain_up_to 4294967295 word → MatchOption n (is_number word ≡ false) (λ x. (is_number word ≡ true) × (x ≡ value_of word) × (x ≤ 4294967295))
 unfolding is_number
 number_is word n e = rw e (chosen_is (is_plain word && nat_le (value_of word) 4294967295) (value_of word) 4294967295 (up_to_most (is_plain word) (value_of word) 4294967295))
+
+-- the value of a version's number, or that the word is none
+pub version_is : (word : List ℕ) (n : Option ℕ) → n ≡ plain_up_to 18446744073709551615 word → MatchOption n (is_version word ≡ false) (λ x. (is_version word ≡ true) × (x ≡ value_of word))
+unfolding is_version
+version_is word n e = rw e (value_is (is_plain word && nat_le (value_of word) 18446744073709551615) (value_of word))
 
 -- a word that is no entry
 pub entry_missing : (word : List ℕ) (words : List (List ℕ)) → None ≡ whole_of word → are_entries (word ∷ words) ≡ false

@@ -105,11 +105,8 @@ is_placed Shape before = is_none before.shape
 is_placed Session before = is_some before.shape
 is_placed _ before = nat_lt 0 before.sessions
 
--- corrections, removals, logarithms and further sessions are not built yet
+-- further sessions are not built yet
 abbrev pub is_built : Keyword → Tally → Bool
-is_built Correct before = false
-is_built Remove before = false
-is_built Log before = false
 is_built Session before = before.sessions == 0
 is_built _ before = true
 
@@ -127,14 +124,13 @@ has_fields Remove extent words = length words == 2
 has_fields Sig extent words = has_query_fields words
 has_fields Log extent words = has_query_fields words
 
--- a query of a named version is not built yet
-abbrev pub is_short : Keyword → List (List ℕ) → Bool
-is_short Sig words = length words == 4
-is_short _ words = true
-
 -- a plain number of at most 32 bits
 unfoldable pub is_number : List ℕ → Bool
 is_number word = is_some (plain_up_to (2 ^ 32 - 1) word)
+
+-- the number of a version, of at most 64 bits
+unfoldable pub is_version : List ℕ → Bool
+is_version word = is_some (plain_up_to (2 ^ 64 - 1) word)
 
 -- a time whose tick is within the bound
 unfoldable pub is_tick : ℕ → List ℕ → Bool
@@ -143,6 +139,15 @@ is_tick most word = is_some (tick_up_to most word)
 -- whether each word is a whole number in range
 unfoldable pub are_entries : List (List ℕ) → Bool
 are_entries words = list_all (λ word. is_some (whole_of word)) words
+
+-- the fields of a query from left to right
+abbrev pub query_field_tests : List (List ℕ) → List (Option Reason)
+query_field_tests words =
+    unless (is_tick (2 ^ 32) (field 1 words)) reasons.Time
+    ∷ unless (is_tick (2 ^ 32) (field 2 words)) reasons.Time
+    ∷ unless (is_number (field 3 words)) reasons.Number
+    ∷ unless (length words == 4 || is_version (field 5 words)) reasons.Number
+    ∷ []
 
 -- the fields from left to right
 abbrev pub field_tests : Keyword → List (List ℕ) → List (Option Reason)
@@ -153,12 +158,10 @@ field_tests Append words =
     ∷ unless (is_tick (2 ^ 32 - 1) (field 2 words)) reasons.Time
     ∷ unless (are_entries (drop 3 words)) reasons.Number
     ∷ []
-field_tests Sig words =
-    unless (is_tick (2 ^ 32) (field 1 words)) reasons.Time
-    ∷ unless (is_tick (2 ^ 32) (field 2 words)) reasons.Time
-    ∷ unless (is_number (field 3 words)) reasons.Number
-    ∷ []
-field_tests _ words = []
+field_tests Correct words = unless (is_name (field 1 words)) reasons.Name ∷ unless (are_entries (drop 2 words)) reasons.Number ∷ []
+field_tests Remove words = unless (is_name (field 1 words)) reasons.Name ∷ []
+field_tests Sig words = query_field_tests words
+field_tests Log words = query_field_tests words
 
 -- the tick of a time, 0 where there is none
 unfoldable pub tick_or_zero : ℕ → List ℕ → ℕ
@@ -171,6 +174,15 @@ command_tests before =
     ∷ unless (nat_le ((before.commands + 1) * total_words (named before.shape)) 8000000) reasons.Load
     ∷ []
 
+-- the values of a query, in their order
+abbrev pub query_tests : Tally → List (List ℕ) → List (Option Reason)
+query_tests before words =
+    unless (nat_le (tick_or_zero (2 ^ 32) (field 1 words)) (tick_or_zero (2 ^ 32) (field 2 words))) reasons.Interval
+    ∷ unless (nat_le (value_of (field 3 words)) 16) reasons.Resolution
+    ∷ first_of (command_tests before)
+    ∷ unless (nat_le ((before.queries + 1) * total_words (named before.shape)) 2000000) reasons.Answers
+    ∷ []
+
 -- the values, in their order
 abbrev pub value_tests : Keyword → Tally → List (List ℕ) → List (Option Reason)
 value_tests Shape before words =
@@ -181,13 +193,10 @@ value_tests Shape before words =
 value_tests Session before words =
     unless (value_of (field 1 words) == before.sessions + 1 && nat_le (value_of (field 1 words)) 16) reasons.Session ∷ []
 value_tests Append before words = command_tests before
-value_tests Sig before words =
-    unless (nat_le (tick_or_zero (2 ^ 32) (field 1 words)) (tick_or_zero (2 ^ 32) (field 2 words))) reasons.Interval
-    ∷ unless (nat_le (value_of (field 3 words)) 16) reasons.Resolution
-    ∷ first_of (command_tests before)
-    ∷ unless (nat_le ((before.queries + 1) * total_words (named before.shape)) 2000000) reasons.Answers
-    ∷ []
-value_tests _ before words = []
+value_tests Correct before words = command_tests before
+value_tests Remove before words = command_tests before
+value_tests Sig before words = query_tests before words
+value_tests Log before words = query_tests before words
 
 -- the reasons of a line that begins with this keyword
 abbrev pub form_reason : Keyword → Tally → List (List ℕ) → Option Reason
@@ -195,7 +204,6 @@ form_reason k before words =
     first_of (unless (is_placed k before) reasons.Place
     ∷ unless (is_built k before) reasons.Later
     ∷ unless (has_fields k (named before.shape) words) reasons.Fields
-    ∷ unless (is_short k words) reasons.Later
     ∷ first_of (field_tests k words)
     ∷ first_of (value_tests k before words)
     ∷ [])

@@ -10,12 +10,15 @@ use Rattle.script_reader.specs.declared.form.LineFault.{LineFault}
 use Rattle.script_reader.specs.declared.form.LineFault.TheVariants.{Bad, Memory}
 use Rattle.script_reader.specs.declared.form.Line.{Line}
 use Rattle.script_reader.specs.declared.form.Line.TheVariants as lines
+use Rattle.script_reader.specs.declared.command.Kind.{Kind}
+use Rattle.script_reader.specs.declared.command.Kind.TheVariants as kinds
 use Rattle.script_reader.specs.declared.keyword.Keyword.{Keyword}
 use Rattle.script_reader.specs.declared.keyword.Keyword.TheVariants as keywords
 use Rattle.script_reader.specs.declared.tally.Tally.{Tally}
 use Rattle.spellings.specs.Lines.{words_in}
 use Rattle.script_reader.specs.Lines.{keyword_in, extent_of, named}
-use Rattle.script_reader.specs.Script.{append_of, ask_of, onto_last, IsCommand}
+use Rattle.versions.specs.declared.edit.Edit.TheVariants as edit
+use Rattle.script_reader.specs.Script.{append_of, correct_of, remove_of, ask_of, onto_last, IsCommand}
 
 -- refused for the reason that is due, or for want of memory
 abbrev pub IsRefusal : Option Reason → LineFault → Type 0
@@ -43,12 +46,19 @@ IsNext before (lines.Shape shape) = (before.shape ≡ None) × IsShape shape
 IsNext before lines.Session = IsSome before.shape × (before.sessions < 16)
 IsNext before (lines.Command command) = HasRoom before × IsCommand (named before.shape) command
 
+-- the keyword of queries of this kind
+abbrev pub keyword_for : Kind → Keyword
+keyword_for kinds.Sig = keywords.Sig
+keyword_for kinds.Log = keywords.Log
+
 -- what the words of a good line say
 abbrev pub Says : Extent → Option Keyword → List (List ℕ) → Line → Type 0
 Says extent keyword words (lines.Shape shape) = (keyword ≡ Some keywords.Shape) × (shape ≡ extent_of words)
 Says extent keyword words lines.Session = keyword ≡ Some keywords.Session
-Says extent keyword words (lines.Command (commands.Edit e)) = (keyword ≡ Some keywords.Append) × (commands.Edit e ≡ append_of extent words)
-Says extent keyword words (lines.Command (commands.Ask ask)) = (keyword ≡ Some keywords.Sig) × (ask ≡ ask_of words)
+Says extent keyword words (lines.Command (commands.Edit (edit.Append name tick x))) = (keyword ≡ Some keywords.Append) × (commands.Edit (edit.Append name tick x) ≡ append_of extent words)
+Says extent keyword words (lines.Command (commands.Edit (edit.Correct name x))) = (keyword ≡ Some keywords.Correct) × (commands.Edit (edit.Correct name x) ≡ correct_of extent words)
+Says extent keyword words (lines.Command (commands.Edit (edit.Remove name))) = (keyword ≡ Some keywords.Remove) × (commands.Edit (edit.Remove name) ≡ remove_of words)
+Says extent keyword words (lines.Command (commands.Ask ask)) = (keyword ≡ Some (keyword_for ask.kind)) × (ask ≡ ask_of ask.kind words)
 
 -- what a good line is read as
 pub record IsLine (before : Tally) (keyword : Option Keyword) (words : List (List ℕ)) (line : Line) : Type 0 where

@@ -1,21 +1,22 @@
 -- The script that bytes spell, or the first bad line.
-use Rattle.std.specs.Prelude.{ℕ, suc, ◌-◌, ◌<◌, ◌≤◌, ◌^◌, nat_lt, if◌then◌else◌, List, [], ◌∷◌, ◌++◌, All, map, drop, length, fold, filter, sum_by, Option, Some, None, unwrap_or, Result, Ok, Err, ℤ, pos}
+use Rattle.std.specs.Prelude.{ℕ, suc, ◌-◌, ◌<◌, ◌≤◌, ◌^◌, ◌==◌, nat_lt, if◌then◌else◌, List, [], ◌∷◌, ◌++◌, All, map, drop, length, fold, filter, sum_by, Option, Some, None, unwrap_or, Result, Ok, Err, ℤ, pos}
 use Rattle.definitions.specs.Words.{Extent, IsShape}
 use Rattle.definitions.specs.Moves.{plain, IsMove}
 use Rattle.spellings.specs.Lines.{lines_of, words_in, is_content}
 use Rattle.spellings.specs.Numbers.{value_of, whole_of}
 use Rattle.script_reader.specs.declared.keyword.Keyword.{Keyword}
-use Rattle.script_reader.specs.declared.keyword.Keyword.TheVariants.{Session, Append, Sig}
+use Rattle.script_reader.specs.declared.keyword.Keyword.TheVariants.{Session, Append, Correct, Remove, Sig, Log}
 use Rattle.script_reader.specs.declared.fault.Reason.{Reason}
 use Rattle.script_reader.specs.declared.fault.Reason.TheVariants as reasons
 use Rattle.script_reader.specs.declared.fault.ScriptFault.{ScriptFault}
 use Rattle.script_reader.specs.declared.fault.ScriptFault.TheVariants.{Size, Line}
 use Rattle.script_reader.specs.declared.command.Command.{Command}
 use Rattle.script_reader.specs.declared.command.Command.TheVariants as commands
-use Rattle.script_reader.specs.declared.command.Edit.{Edit}
-use Rattle.script_reader.specs.declared.command.Edit.TheVariants as edit
+use Rattle.versions.specs.declared.edit.Edit.TheVariants as edit
+use Rattle.versions.specs.Versions.{IsEdit}
 use Rattle.script_reader.specs.declared.command.Ask.{Ask}
-use Rattle.script_reader.specs.declared.command.Kind.TheVariants as kind
+use Rattle.script_reader.specs.declared.command.Kind.{Kind}
+use Rattle.script_reader.specs.declared.command.Kind.TheVariants as kinds
 use Rattle.script_reader.specs.Lines.{field, keyword_in, extent_in, named, sessions_in, tick_or_zero, reason_of}
 
 -- a shape, and the commands of each session
@@ -32,14 +33,26 @@ entries_of words = map (λ word. unwrap_or (whole_of word) (pos 0)) words
 abbrev pub append_of : Extent → List (List ℕ) → Command
 append_of extent words = commands.Edit (edit.Append (field 1 words) (tick_or_zero (2 ^ 32 - 1) (field 2 words)) (plain extent.depth (entries_of (drop 3 words))))
 
--- the query of a line of four words
-abbrev pub ask_of : List (List ℕ) → Ask
-ask_of words = record {
-  kind = kind.Sig;
+-- the edit of a correct line
+abbrev pub correct_of : Extent → List (List ℕ) → Command
+correct_of extent words = commands.Edit (edit.Correct (field 1 words) (plain extent.depth (entries_of (drop 2 words))))
+
+-- the edit of a remove line
+abbrev pub remove_of : List (List ℕ) → Command
+remove_of words = commands.Edit (edit.Remove (field 1 words))
+
+-- the version that a query line names
+abbrev pub version_of : List (List ℕ) → Option ℕ
+version_of words = if length words == 4 then None else Some (value_of (field 5 words))
+
+-- the query of a line
+abbrev pub ask_of : Kind → List (List ℕ) → Ask
+ask_of kind words = record {
+  kind = kind;
   from = tick_or_zero (2 ^ 32) (field 1 words);
   to = tick_or_zero (2 ^ 32) (field 2 words);
   r = value_of (field 3 words);
-  version = None;
+  version = version_of words;
 }
 
 -- a command more for the last session
@@ -52,7 +65,10 @@ onto_last command (session ∷ next ∷ sessions) = session ∷ onto_last comman
 abbrev pub with_line : Extent → List (List Command) → Option Keyword → List (List ℕ) → List (List Command)
 with_line extent sessions (Some Session) words = sessions ++ [] ∷ []
 with_line extent sessions (Some Append) words = onto_last (append_of extent words) sessions
-with_line extent sessions (Some Sig) words = onto_last (commands.Ask (ask_of words)) sessions
+with_line extent sessions (Some Correct) words = onto_last (correct_of extent words) sessions
+with_line extent sessions (Some Remove) words = onto_last (remove_of words) sessions
+with_line extent sessions (Some Sig) words = onto_last (commands.Ask (ask_of kinds.Sig words)) sessions
+with_line extent sessions (Some Log) words = onto_last (commands.Ask (ask_of kinds.Log words)) sessions
 with_line extent sessions _ words = sessions
 
 -- the sessions that content lines say
@@ -90,10 +106,6 @@ abbrev pub parse : List ℕ → Result ScriptValue ScriptFault
 parse bytes = if nat_lt most_bytes (length bytes) then Err Size else judged (first_bad 0 [] (lines_of bytes)) (lines_of bytes)
 
 -- ---- what every script keeps
--- an edit of an extent
-abbrev pub IsEdit : Extent → Edit → Type 0
-IsEdit extent (edit.Append name tick x) = (tick < 2 ^ 32) × IsMove extent x
-
 -- a query within the limits
 pub record IsAsk (ask : Ask) : Type 0 where
   pub forward : ask.from ≤ ask.to

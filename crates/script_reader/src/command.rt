@@ -1,21 +1,17 @@
 ghost use Rattle.std.specs.Prelude.{◌≡◌, ◌∷◌, [], ◌++◌, is_ok, if◌then◌else◌};
 
-use increments::Name;
 use std::alloc::Global;
 use std::marker::Model;
-use words::{Memory, Move};
-
-/// A change of the rows.
-#[derive(Drop)]
-pub enum Edit {
-    /// A new row at a tick below 2^32.
-    Append { name: Name, tick: u64, x: Move },
-}
+use versions::Edit;
+use words::Memory;
 
 /// What a query asks for.
 #[derive(Debug, Clone, Copy, PartialEq, Eq, Drop)]
 pub enum Kind {
+    /// The signature.
     Sig,
+    /// The logarithm of the signature, in Hall coordinates.
+    Log,
 }
 
 /// A query over the ticks `from .. to`, both at most 2^32, at a resolution from 0 to 16; of the current version where none is named.

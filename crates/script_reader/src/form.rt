@@ -1,20 +1,21 @@
 //! The forms of content lines.
-ghost use Rattle.std.specs.Prelude.{◌≡◌, ◌-◌, ◌^◌, ◌<◌, ◌≤◌, true, false, map, length, IfOk, MatchOption, MatchResult, Some, None, nat_lt, if◌then◌else◌};
+ghost use Rattle.std.specs.Prelude.{◌≡◌, ◌-◌, ◌^◌, ◌<◌, ◌≤◌, ◌==◌, ◌||◌, true, false, map, length, IfOk, MatchOption, MatchResult, Some, None, nat_lt, if◌then◌else◌};
 ghost use Rattle.definitions.specs.Moves.{IsMove, plain};
 ghost use Rattle.std.specs.List.{list_all};
 ghost use Rattle.spellings.specs.Lines.{words_in};
 ghost use Rattle.spellings.specs.Numbers.{value_of};
-ghost use Rattle.script_reader.specs.Lines.{field, is_number, is_tick, are_entries, tick_or_zero, is_allowed_byte, keyword_of, keyword_in, command_tests, first_of, has_query_fields, form_reason, reason_after};
-ghost use Rattle.script_reader.specs.Script.{entries_of};
-ghost use Rattle.script_reader.specs.Reading.{IsRefusal, IsTally, IsLine};
+ghost use Rattle.script_reader.specs.Lines.{field, is_number, is_version, is_tick, are_entries, tick_or_zero, is_allowed_byte, keyword_of, keyword_in, command_tests, first_of, has_query_fields, form_reason, reason_after};
+ghost use Rattle.script_reader.specs.Script.{entries_of, version_of};
+ghost use Rattle.script_reader.specs.Reading.{IsRefusal, IsTally, IsLine, keyword_for};
 
-use crate::command::{Ask, Command, Edit, Kind};
+use crate::command::{Ask, Command, Kind};
 use crate::fault::Reason;
 use crate::keyword::Keyword;
 use crate::tally::Tally;
 use increments::Name;
 use spellings::{is_name, name_text, plain_number, tick, whole_number, words_in};
 use std::alloc::{AllocError, AllocFailed, Global};
+use versions::Edit;
 use words::{Entries, Move, Shape, ShapeFault};
 
 /// Why a line isn't read.
@@ -102,6 +103,15 @@ fn number_at(words: &[&[u8]], place: usize) -> Option<u64>
         MatchOption result (is_number word ≡ false) (λ n. (is_number word ≡ true) × (n ≡ value_of word) × (n ≤ 2 ^ 32 - 1)) }
 {
     plain_number(word_at(words, place), MOST_NUMBER)
+}
+
+/// The value of a version's number, `None` where the word isn't one.
+fn version_at(words: &[&[u8]], place: usize) -> Option<u64>
+    requires { place < length words.now }
+    ensures { let word = field place (map (λ w. w.now) words.now) in
+        MatchOption result (is_version word ≡ false) (λ v. (is_version word ≡ true) × (v ≡ value_of word)) }
+{
+    plain_number(word_at(words, place), u64::MAX)
 }
 
 /// The tick of a time, `None` where the word isn't one or the tick is later than `most`.
@@ -212,17 +222,6 @@ fn read_session(tally: &Tally, words: &[&[u8]]) -> Result<(), LineFault>
     Ok(())
 }
 
-/// Why a line of a form that isn't built yet is bad.
-fn later_reason(tally: &Tally) -> Reason
-    ensures { result ≡ (if nat_lt 0 tally.now.sessions then Reason.Later else Reason.Place) }
-{
-    if tally.sessions > 0 {
-        Reason::Later
-    } else {
-        Reason::Place
-    }
-}
-
 /// An append line.
 fn read_append(alloc: Global, tally: &Tally, words: &[&[u8]]) -> Result<Edit, LineFault>
     requires { IsTally tally.now }
@@ -252,6 +251,54 @@ fn read_append(alloc: Global, tally: &Tally, words: &[&[u8]]) -> Result<Edit, Li
     Ok(Edit::Append { name, tick, x })
 }
 
+/// A correct line.
+fn read_correct(alloc: Global, tally: &Tally, words: &[&[u8]]) -> Result<Edit, LineFault>
+    requires { IsTally tally.now }
+    ensures { let spelled = map (λ w. w.now) words.now in let due = form_reason Keyword.Correct tally.now spelled in
+        MatchResult result (λ e. (due ≡ None) × IsLine tally.now (Some Keyword.Correct) spelled (Line.Command (Command.Edit e))) (λ e. IsRefusal due e) }
+{
+    let Some(shape) = placed_shape(tally) else {
+        return Err(LineFault::Bad(Reason::Place));
+    };
+    if words.len() != 2 + shape.width() as usize {
+        return Err(LineFault::Bad(Reason::Fields));
+    }
+    if !is_name(word_at(words, 1)) {
+        return Err(LineFault::Bad(Reason::Name));
+    }
+    let Some(entries) = entries_in(alloc, &words[2..])? else {
+        return Err(LineFault::Bad(Reason::Number));
+    };
+    if let Some(reason) = command_reason(tally, shape) {
+        return Err(LineFault::Bad(reason));
+    }
+    let name = Name::of(name_text(alloc, word_at(words, 1))?);
+    let x = plain_move(alloc, shape, entries)?;
+    Ok(Edit::Correct { name, x })
+}
+
+/// A remove line.
+fn read_remove(alloc: Global, tally: &Tally, words: &[&[u8]]) -> Result<Edit, LineFault>
+    requires { IsTally tally.now }
+    ensures { let spelled = map (λ w. w.now) words.now in let due = form_reason Keyword.Remove tally.now spelled in
+        MatchResult result (λ e. (due ≡ None) × IsLine tally.now (Some Keyword.Remove) spelled (Line.Command (Command.Edit e))) (λ e. IsRefusal due e) }
+{
+    let Some(shape) = placed_shape(tally) else {
+        return Err(LineFault::Bad(Reason::Place));
+    };
+    if words.len() != 2 {
+        return Err(LineFault::Bad(Reason::Fields));
+    }
+    if !is_name(word_at(words, 1)) {
+        return Err(LineFault::Bad(Reason::Name));
+    }
+    if let Some(reason) = command_reason(tally, shape) {
+        return Err(LineFault::Bad(reason));
+    }
+    let name = Name::of(name_text(alloc, word_at(words, 1))?);
+    Ok(Edit::Remove { name })
+}
+
 /// Whether there are as many words as in a query: four, or six of which the fifth is `at`.
 fn has_query_fields(words: &[&[u8]]) -> bool
     ensures { result ≡ has_query_fields (map (λ w. w.now) words.now) }
@@ -259,11 +306,24 @@ fn has_query_fields(words: &[&[u8]]) -> bool
     words.len() == 4 || words.len() == 6 && word_at(words, 4) == b"at".as_slice()
 }
 
-/// A line that asks for a signature.
-fn read_query(tally: &Tally, words: &[&[u8]]) -> Result<Ask, LineFault>
+/// The version that a query names, if it names one; `None` where the word isn't a version's number.
+fn named_version(words: &[&[u8]]) -> Option<Option<u64>>
+    requires { has_query_fields (map (λ w. w.now) words.now) ≡ true }
+    ensures { let spelled = map (λ w. w.now) words.now in
+        MatchOption result ((length spelled == 4 || is_version (field 5 spelled)) ≡ false) (λ v. ((length spelled == 4 || is_version (field 5 spelled)) ≡ true) × (v ≡ version_of spelled)) }
+{
+    if words.len() == 4 {
+        return Some(None);
+    }
+    let version = version_at(words, 5)?;
+    Some(Some(version))
+}
+
+/// A line that asks for a signature or a logarithm.
+fn read_query(tally: &Tally, kind: Kind, words: &[&[u8]]) -> Result<Ask, LineFault>
     requires { IsTally tally.now }
-    ensures { let spelled = map (λ w. w.now) words.now in let due = form_reason Keyword.Sig tally.now spelled in
-        MatchResult result (λ ask. (due ≡ None) × IsLine tally.now (Some Keyword.Sig) spelled (Line.Command (Command.Ask ask))) (λ e. IsRefusal due e) }
+    ensures { let spelled = map (λ w. w.now) words.now in let due = form_reason (keyword_for kind) tally.now spelled in
+        MatchResult result (λ ask. (due ≡ None) × (ask.kind ≡ kind) × IsLine tally.now (Some (keyword_for kind)) spelled (Line.Command (Command.Ask ask))) (λ e. IsRefusal due e) }
 {
     let Some(shape) = placed_shape(tally) else {
         return Err(LineFault::Bad(Reason::Place));
@@ -271,13 +331,10 @@ fn read_query(tally: &Tally, words: &[&[u8]]) -> Result<Ask, LineFault>
     if !has_query_fields(words) {
         return Err(LineFault::Bad(Reason::Fields));
     }
-    if words.len() != 4 {
-        return Err(LineFault::Bad(Reason::Later));
-    }
     let (Some(from), Some(to)) = (tick_at(words, 1, MOST_END), tick_at(words, 2, MOST_END)) else {
         return Err(LineFault::Bad(Reason::Time));
     };
-    let Some(r) = number_at(words, 3) else {
+    let (Some(r), Some(version)) = (number_at(words, 3), named_version(words)) else {
         return Err(LineFault::Bad(Reason::Number));
     };
     if from > to {
@@ -293,11 +350,11 @@ fn read_query(tally: &Tally, words: &[&[u8]]) -> Result<Ask, LineFault>
         return Err(LineFault::Bad(Reason::Answers));
     }
     Ok(Ask {
-        kind: Kind::Sig,
+        kind,
         from,
         to,
         r: r as u8,
-        version: None,
+        version,
     })
 }
 
@@ -323,11 +380,20 @@ fn read_form(
             Ok(Line::Command(Command::Edit(edit)))
         }
         Keyword::Sig => {
-            let ask = read_query(tally, words)?;
+            let ask = read_query(tally, Kind::Sig, words)?;
             Ok(Line::Command(Command::Ask(ask)))
         }
-        Keyword::Correct | Keyword::Remove | Keyword::Log => {
-            Err(LineFault::Bad(later_reason(tally)))
+        Keyword::Correct => {
+            let edit = read_correct(alloc, tally, words)?;
+            Ok(Line::Command(Command::Edit(edit)))
+        }
+        Keyword::Remove => {
+            let edit = read_remove(alloc, tally, words)?;
+            Ok(Line::Command(Command::Edit(edit)))
+        }
+        Keyword::Log => {
+            let ask = read_query(tally, Kind::Log, words)?;
+            Ok(Line::Command(Command::Ask(ask)))
         }
     }
 }

@@ -9,11 +9,12 @@ mod reader;
 pub mod script;
 mod tally;
 
-pub use command::{Ask, Command, Commands, Edit, Kind};
+pub use command::{Ask, Command, Commands, Kind};
 pub use fault::{Reason, ScriptFault};
 pub use increments::Name;
 pub use reader::read_script;
 pub use script::Script;
+pub use versions::Edit;
 
 #[cfg(test)]
 mod tests;

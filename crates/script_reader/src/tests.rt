@@ -64,10 +64,18 @@ fn commands(rt: HostRuntime) -> Result<(), Fail> {
     for (text, line, reason) in [
         ("appends a 0 2 3", 3, Reason::Keyword),
         ("session", 3, Reason::Later),
-        ("correct a", 3, Reason::Later),
-        ("remove", 3, Reason::Later),
-        ("log x", 3, Reason::Later),
-        ("sig x y z at 0", 3, Reason::Later),
+        ("correct a 2", 3, Reason::Fields),
+        ("correct 1 - -", 3, Reason::Name),
+        ("correct a 2 -", 3, Reason::Number),
+        ("remove", 3, Reason::Fields),
+        ("remove a b", 3, Reason::Fields),
+        ("remove 1", 3, Reason::Name),
+        ("log x", 3, Reason::Fields),
+        ("log 0 1 x", 3, Reason::Number),
+        ("log 2 1 0 at 1", 3, Reason::Interval),
+        ("sig x y z at x", 3, Reason::Time),
+        ("sig 2 1 0 at 18446744073709551616", 3, Reason::Number),
+        ("sig 2 1 0 at 18446744073709551615", 3, Reason::Interval),
         ("sig 0 1 0 in 0", 3, Reason::Fields),
         ("sig 0 1 0 at", 3, Reason::Fields),
         ("append a 0 2", 3, Reason::Fields),
@@ -141,7 +149,7 @@ fn limits(rt: HostRuntime) -> Result<(), Fail> {
 #[test]
 fn a_script(rt: HostRuntime) -> Result<(), Fail> {
     let text =
-        "\t# \u{0}\r\nshape 2 2\r\n\n \t\nsession 1\n append  append 1/2 2\t-3\r\nappend b 65535 -0 00\n#\nsig 0 65536 16";
+        "\t# \u{0}\r\nshape 2 2\r\n\n \t\nsession 1\n append  append 1/2 2\t-3\r\nappend b 65535 -0 00\n#\nsig 0 65536 16\nsig 0 0 0 at 18446744073709551615\ncorrect b 7 8\nremove remove\nlog 0 0 0";
     let script = read_script(rt.alloc(), text.as_bytes())
         .ok()
         .ok_or("refused")?;
@@ -149,7 +157,7 @@ fn a_script(rt: HostRuntime) -> Result<(), Fail> {
     assert_eq!(rt; (shape.width(), shape.depth()), (2, 2));
     assert_eq!(rt; script.sessions().len(), 1);
     let commands = script.sessions()[0].list();
-    assert_eq!(rt; commands.len(), 3);
+    assert_eq!(rt; commands.len(), 7);
     for (command, bytes, due, entries) in [
         (&commands[0], "append", 32_768, [2, -3]),
         (&commands[1], "b", 4_294_901_760, [0, 0]),
@@ -170,5 +178,21 @@ fn a_script(rt: HostRuntime) -> Result<(), Fail> {
         (0, 4_294_967_296, 16, None)
     );
     assert_eq!(rt; ask.kind, Kind::Sig);
+    let Command::Ask(ask) = &commands[3] else {
+        return Err(Fail::from("no query"));
+    };
+    assert_eq!(rt; ask.version, Some(18_446_744_073_709_551_615));
+    let Command::Edit(Edit::Correct { name, x }) = &commands[4] else {
+        return Err(Fail::from("no correction"));
+    };
+    assert_eq!(rt; (name.text(), x.part(1)), ("b", [7, 8].as_slice()));
+    let Command::Edit(Edit::Remove { name }) = &commands[5] else {
+        return Err(Fail::from("no removal"));
+    };
+    assert_eq!(rt; name.text(), "remove");
+    let Command::Ask(ask) = &commands[6] else {
+        return Err(Fail::from("no query"));
+    };
+    assert_eq!(rt; (ask.kind, ask.version), (Kind::Log, None));
     Ok(())
 }
