@@ -1,3 +1,6 @@
 pub mod RowLaws
 pub mod PlayLaws
-pub mod LookLaws
+pub mod PieceLaws
+pub mod LogLaws
+pub mod LoggedLaws
+pub mod ExpansionLaws

@@ -1,11 +1,12 @@
 -- When an answer that is kept, whose signature is a tensor, is the one that is due.
-use Rattle.std.specs.Prelude.{◌≡◌, ℕ, List, [], ◌∷◌, ℤ}
+use Rattle.std.specs.Prelude.{◌≡◌, ℕ, List, [], ◌∷◌, ℤ, All}
+use Rattle.hall_set.specs.Hall.{InHall, hall_list}
 use Rattle.definitions.specs.Words.{Extent, IsWord}
 use Rattle.scaled_tensor.specs.Tensors.{TensorValue, coefficient}
 use Rattle.session.specs.declared.answer.Answer.{Answer}
 use Rattle.session.specs.declared.answer.Answer.TheVariants as answers
 use Rattle.session.specs.declared.answer.Outcome.{Outcome}
-use Rattle.session.specs.Play.{Due, Edited, Valued, Refused, DueOutcome}
+use Rattle.session.specs.Play.{Due, Edited, Valued, Logged, Refused, DueOutcome}
 
 -- the tensor has these coefficients at the words of the extent
 pub record HasSeries (extent : Extent) (tensor : TensorValue) (series : List ℕ → ℤ) : Type 0 where
@@ -15,6 +16,7 @@ pub record HasSeries (extent : Extent) (tensor : TensorValue) (series : List ℕ
 abbrev pub Shows : Extent → Answer → Due → Type 0
 Shows extent (answers.Edit reply) (Edited due) = reply ≡ due
 Shows extent (answers.Sig reply tensor) (Valued due series) = (reply ≡ due) × HasSeries extent tensor series
+Shows extent (answers.Log reply lie) (Logged due terms) = (reply ≡ due) × (lie ≡ terms)
 Shows extent (answers.Refused reply) (Refused due) = reply ≡ due
 Shows extent _ _ = ⊥
 
@@ -32,3 +34,12 @@ ShowsAll extent _ _ = ⊥
 pub record IsOutcome (extent : Extent) (outcome : Outcome) (due : DueOutcome) : Type 0 where
   pub transcripts : ShowsAll extent outcome.transcripts.items due.transcripts
   pub versions : outcome.versions ≡ due.versions
+
+-- ---- what printing needs
+-- the numbers of a logarithm are those of members of the extent's Hall set
+abbrev pub HasMembers : Extent → Answer → Type 0
+HasMembers extent (answers.Log reply lie) = All (λ t. InHall (hall_list extent.width extent.depth) t.number) lie
+HasMembers extent _ = Unit {0}
+
+abbrev pub AllHaveMembers : Extent → Outcome → Type 0
+AllHaveMembers extent outcome = All (All (HasMembers extent)) outcome.transcripts.items

@@ -1,46 +1,39 @@
--- What a script is due: the reply to each command, from the rows that the accepted edits before it leave.
-use Rattle.std.specs.Prelude.{ℕ, ◌+◌, ◌^◌, nat_le, if◌then◌else◌, List, [], ◌∷◌, ℤ}
-use Rattle.definitions.specs.Words.{Extent}
+-- What a script is due: the reply to each command, from the edits that were accepted before it.
+use Rattle.std.specs.Prelude.{ℕ, ◌*◌, ◌^◌, Bool, nat_le, nat_lt, if◌then◌else◌, List, [], ◌∷◌, length, Option, Some, None, unwrap_or, ℤ}
+use Rattle.std.specs.List.{list_all}
+use Rattle.definitions.specs.Words.{Extent, up_to}
 use Rattle.definitions.specs.Signature.{signature, weight, limit}
-use Rattle.definitions.specs.Rows.{RowValue, rounded, rows_in, moves_of, with_row, is_live}
+use Rattle.definitions.specs.Logarithm.{logarithm}
+use Rattle.definitions.specs.Rows.{RowValue, rounded, rows_in, moves_of}
+use Rattle.versions.specs.declared.edit.EditReply.{EditReply}
+use Rattle.versions.specs.Versions.{LogValue, rows_at, edit_reply, after_edit}
+use Rattle.hall_set.specs.Hall.{hall_list}
+use Rattle.lie_bracket.specs.declared.term.Term.{Term}
+use Rattle.lie_bracket.specs.Tables.{heavy_pair}
+use Rattle.dynkin_map.specs.Coordinates.{heavy_level, lie_bound, coordinates}
 use Rattle.script_reader.specs.declared.command.Ask.{Ask}
-use Rattle.script_reader.specs.declared.command.Edit.{Edit}
-use Rattle.script_reader.specs.declared.command.Edit.TheVariants.{Append}
+use Rattle.script_reader.specs.declared.command.Kind.{Kind}
+use Rattle.script_reader.specs.declared.command.Kind.TheVariants as kinds
 use Rattle.script_reader.specs.declared.command.Command.{Command}
 use Rattle.script_reader.specs.declared.command.Command.TheVariants as commands
 use Rattle.script_reader.specs.Script.{ScriptValue}
-use Rattle.session.specs.declared.answer.EditReply.{EditReply}
-use Rattle.session.specs.declared.answer.EditReply.TheVariants.{Done, NameTaken}
 use Rattle.session.specs.declared.answer.LookReply.{LookReply}
-use Rattle.session.specs.declared.answer.LookReply.TheVariants.{Found, Overflow}
+use Rattle.session.specs.declared.answer.LookReply.TheVariants.{Found, NoVersion, Growth, GrowthLevel, Overflow}
 
--- the shape, the rows, and how many edits were accepted
-pub record StreamValue : Type 0 where
-  pub extent : Extent
-  pub rows : List RowValue
-  pub version : ℕ
-
--- an answer; a signature is the series of its numerators
+-- an answer: a signature is the series of its numerators, a logarithm the list of its nonzero Hall coordinates
 pub data Due : Type 0 where
   Edited : EditReply → Due
   Valued : LookReply → (List ℕ → ℤ) → Due
+  Logged : LookReply → List Term → Due
   Refused : LookReply → Due
 
-abbrev pub edit_reply : StreamValue → Edit → EditReply
-edit_reply stream (Append name tick x) = if is_live name stream.rows then NameTaken stream.version else Done (stream.version + 1)
-
--- an accepted edit makes the next version, which is the birth of its row; a refused one changes nothing
-abbrev pub after_edit : StreamValue → Edit → StreamValue
-after_edit stream (Append name tick x) =
-    if is_live name stream.rows then stream
-    else record stream {
-      rows = with_row (record { name = name; tick = tick; birth = stream.version + 1; x = x }) stream.rows;
-      version = stream.version + 1;
-    }
+-- the version that is asked for: the current one, where none is named
+abbrev pub asked_version : LogValue → Ask → ℕ
+asked_version log ask = unwrap_or ask.version (length log.edits)
 
 -- the rows in the interval at its resolution
-abbrev pub asked_rows : StreamValue → Ask → List RowValue
-asked_rows stream ask = rows_in (rounded ask.r ask.from) (rounded ask.r ask.to) stream.rows
+abbrev pub asked_rows : Ask → List RowValue → List RowValue
+asked_rows ask rows = rows_in (rounded ask.r ask.from) (rounded ask.r ask.to) rows
 
 -- their signature, where they fit
 abbrev pub value_or_overflow : Extent → ℕ → List RowValue → Due
@@ -48,34 +41,73 @@ value_or_overflow extent version rows =
     if nat_le (weight (moves_of rows) ^ extent.depth) limit then Valued (Found version) (signature (moves_of rows))
     else Refused (Overflow (weight (moves_of rows)))
 
-abbrev pub due : StreamValue → Command → Due
-due stream (commands.Edit edit) = Edited (edit_reply stream edit)
-due stream (commands.Ask ask) = value_or_overflow stream.extent stream.version (asked_rows stream ask)
+-- ---- logarithms
+-- the k-th power of the weight times the k-th bound is at most the limit, for each k up to the depth
+abbrev pub log_fits : Extent → ℕ → Bool
+log_fits extent v = list_all (λ k. nat_le (v ^ k * lie_bound extent k) limit) (up_to extent.depth)
 
-abbrev pub after : StreamValue → Command → StreamValue
-after stream (commands.Edit edit) = after_edit stream edit
-after stream (commands.Ask ask) = stream
+-- why there are no tables of a shape
+abbrev pub refused_level : Option ℕ → Option LookReply
+refused_level None = None
+refused_level (Some k) = Some (GrowthLevel k)
+
+abbrev pub refused_pair : Option (ℕ × ℕ) → Option LookReply → Option LookReply
+refused_pair None later = later
+refused_pair (Some pair) later = Some (Growth pair.0 pair.1)
+
+abbrev pub tables_refusal : Extent → Option LookReply
+tables_refusal extent = refused_pair (heavy_pair extent.depth (hall_list extent.width extent.depth)) (refused_level (heavy_level extent))
+
+abbrev pub refused_or : Option LookReply → Due → Due
+refused_or None due = due
+refused_or (Some reply) due = Refused reply
+
+-- the coordinates of their logarithm, where there are tables and they fit
+abbrev pub logged : Extent → ℕ → List RowValue → Due
+logged extent version rows =
+    refused_or (tables_refusal extent)
+    (if log_fits extent (weight (moves_of rows)) then Logged (Found version) (coordinates extent (logarithm (signature (moves_of rows))))
+    else Refused (Overflow (weight (moves_of rows))))
+
+-- ---- queries
+abbrev pub valued : Kind → Extent → ℕ → List RowValue → Due
+valued kinds.Sig extent version rows = value_or_overflow extent version rows
+valued kinds.Log extent version rows = logged extent version rows
+
+-- the value of the rows of that version, where there is one
+abbrev pub looked : LogValue → Ask → Due
+looked log ask =
+    if nat_lt (length log.edits) (asked_version log ask) then Refused (NoVersion (length log.edits))
+    else valued ask.kind log.extent (asked_version log ask) (asked_rows ask (rows_at log.edits (asked_version log ask)))
+
+abbrev pub due : LogValue → Command → Due
+due log (commands.Edit edit) = Edited (edit_reply log.edits edit)
+due log (commands.Ask ask) = looked log ask
+
+abbrev pub after : LogValue → Command → LogValue
+after log (commands.Edit edit) = record log { edits = after_edit log.edits edit }
+after log (commands.Ask ask) = log
 
 -- the answers of a session
-abbrev pub dues : StreamValue → List Command → List Due
-dues stream [] = []
-dues stream (command ∷ commands) = due stream command ∷ dues (after stream command) commands
+abbrev pub dues : LogValue → List Command → List Due
+dues log [] = []
+dues log (command ∷ commands) = due log command ∷ dues (after log command) commands
 
-abbrev pub after_all : StreamValue → List Command → StreamValue
-after_all stream [] = stream
-after_all stream (command ∷ commands) = after_all (after stream command) commands
+abbrev pub after_all : LogValue → List Command → LogValue
+after_all log [] = log
+after_all log (command ∷ commands) = after_all (after log command) commands
 
 -- ---- the sessions, one after another
-abbrev pub session_dues : StreamValue → List (List Command) → List (List Due)
-session_dues stream [] = []
-session_dues stream (session ∷ sessions) = dues stream session ∷ session_dues (after_all stream session) sessions
+abbrev pub session_dues : LogValue → List (List Command) → List (List Due)
+session_dues log [] = []
+session_dues log (session ∷ sessions) = dues log session ∷ session_dues (after_all log session) sessions
 
-abbrev pub after_sessions : StreamValue → List (List Command) → StreamValue
-after_sessions stream [] = stream
-after_sessions stream (session ∷ sessions) = after_sessions (after_all stream session) sessions
+abbrev pub after_sessions : LogValue → List (List Command) → LogValue
+after_sessions log [] = log
+after_sessions log (session ∷ sessions) = after_sessions (after_all log session) sessions
 
-abbrev pub opening : Extent → StreamValue
-opening extent = record { extent = extent; rows = []; version = 0 }
+abbrev pub opening : Extent → LogValue
+opening extent = record { extent = extent; edits = [] }
 
 pub record DueOutcome : Type 0 where
   pub transcripts : List (List Due)
@@ -84,5 +116,5 @@ pub record DueOutcome : Type 0 where
 abbrev pub due_outcome : ScriptValue → DueOutcome
 due_outcome script = record {
   transcripts = session_dues (opening script.extent) script.sessions;
-  versions = (after_sessions (opening script.extent) script.sessions).version;
+  versions = length (after_sessions (opening script.extent) script.sessions).edits;
 }

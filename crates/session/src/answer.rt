@@ -1,22 +1,21 @@
 ghost use Rattle.std.specs.Prelude.{◌≡◌};
 
+use lie_bracket::LieElement;
 use scaled_tensor::Tensor;
 use std::marker::Model;
-
-/// The reply to an edit, with the version after it.
-#[derive(Debug, Clone, Copy, PartialEq, Eq, Drop)]
-pub enum EditReply {
-    /// The edit is committed.
-    Done(u64),
-    /// The name is live: nothing changed.
-    NameTaken(u64),
-}
+use versions::EditReply;
 
 /// The reply to a query.
 #[derive(Debug, Clone, Copy, PartialEq, Eq, Drop)]
 pub enum LookReply {
     /// There is a value, of this version.
     Found { version: u64 },
+    /// No such version: the current one.
+    NoVersion(u64),
+    /// The bracket of these two members of the Hall set is too heavy.
+    Growth(u32, u32),
+    /// The images of words of so many letters are too heavy.
+    GrowthLevel(u32),
     /// The rows don't fit: their weight.
     Overflow(u128),
 }
@@ -27,6 +26,8 @@ pub enum Answer {
     Edit(EditReply),
     /// The signature of the rows in the rounded interval.
     Sig { reply: LookReply, tensor: Tensor },
+    /// The logarithm of the signature of the rows in the rounded interval, in Hall coordinates.
+    Log { reply: LookReply, lie: LieElement },
     /// A query that has no value.
     Refused(LookReply),
 }

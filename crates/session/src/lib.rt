@@ -2,9 +2,13 @@
 #![tactic(auto)]
 
 pub mod answer;
+pub mod laws;
+mod logarithm;
+mod look;
+mod pieces;
 mod rows;
 mod runs;
-mod stream;
 
-pub use answer::{Answer, EditReply, LookReply, Outcome, Transcript};
+pub use answer::{Answer, LookReply, Outcome, Transcript};
 pub use runs::run;
+pub use versions::EditReply;
