@@ -1,5 +1,5 @@
 -- Texts of words and levels.
-use Rattle.std.proofs.Common.{◌≡◌, ◌≢◌, ℕ, zero, suc, ◌+◌, ◌<◌, ◌≤◌, ◌^◌, refl, sym, ap, ap₂, ◌∙◌, arith, ℤ, pos, negsuc, List, [], ◌∷◌, ◌++◌, length, take, get_or}
+use Rattle.std.proofs.Common.{add-one, ◌≡◌, ◌≢◌, ℕ, zero, suc, ◌+◌, ◌<◌, ◌≤◌, ◌^◌, refl, sym, ap, ap₂, ◌∙◌, arith, ℤ, pos, negsuc, List, [], ◌∷◌, ◌++◌, length, take, get_or}
 use Rattle.std.specs.Prelude.{map, flat_map, codes, All}
 use Rattle.std.specs.List.{join_with_byte}
 use Rattle.std.specs.Fmt.{decimal, signed_decimal}
@@ -9,11 +9,12 @@ use Rattle.std.proofs.lemmas.List.Elements.{All-head, All-tail, All-from_get_or}
 use Rattle.definitions.specs.Words.{Extent, IsWord, number, up_to, words_of, factorial}
 use Rattle.definitions.proofs.WordLists.{IsNumbered, length-words_of, word-numbered}
 use Rattle.scaled_tensor.specs.Tensors.{TensorValue, coefficient}
+use Rattle.lie_bracket.specs.declared.term.Term.{Term}
 use Rattle.session.specs.declared.answer.LookReply.{LookReply}
-use Rattle.session.specs.declared.answer.Answer.TheVariants.{Sig}
-use Rattle.session.specs.Play.{Due, Edited, Valued, Refused}
+use Rattle.session.specs.declared.answer.Answer.TheVariants.{Sig, Log}
+use Rattle.session.specs.Play.{Due, Edited, Valued, Logged, Refused}
 use Rattle.session.specs.Answers.{HasSeries, Shows}
-use Rattle.answers.specs.Text.{word_text, term_text, level_text, levels_text, look_text, answer_text}
+use Rattle.answers.specs.Text.{word_text, term_text, level_text, levels_text, log_levels_text, look_text, answer_text}
 
 -- a comma before each letter but the first
 pub letters-joined : (a : ℕ) (word : List ℕ) → join_with_byte 44 (map decimal (a ∷ word)) ≡ decimal a ++ flat_map (λ b. 44 ∷ decimal b) word
@@ -76,7 +77,23 @@ levels-same extent tensor series has =
 
 -- the text of a signature is the one that is due
 pub signature-shown : (extent : Extent) (c : ℕ) (reply : LookReply) (tensor : TensorValue) (due : Due) → Shows extent (Sig reply tensor) due
-    → decimal c ++ look_text reply ++ levels_text tensor.extent (coefficient tensor) ≡ answer_text extent c due
+    → decimal c ++ look_text (codes "sig") reply ++ levels_text tensor.extent (coefficient tensor) ≡ answer_text extent c due
 signature-shown extent c reply tensor (Edited r) h = absurd h
-signature-shown extent c reply tensor (Valued r series) h = ap₂ (λ (r : LookReply) (levels : List ℕ). decimal c ++ look_text r ++ levels) h.0 (levels-same extent tensor series h.1)
+signature-shown extent c reply tensor (Valued r series) h = ap₂ (λ (r : LookReply) (levels : List ℕ). decimal c ++ look_text (codes "sig") r ++ levels) h.0 (levels-same extent tensor series h.1)
+signature-shown extent c reply tensor (Logged r terms) h = absurd h
 signature-shown extent c reply tensor (Refused r) h = absurd h
+
+-- the text of a logarithm is the one that is due
+pub logarithm-shown : (extent : Extent) (c : ℕ) (reply : LookReply) (lie : List Term) (due : Due) → Shows extent (Log reply lie) due
+    → decimal c ++ look_text (codes "log") reply ++ log_levels_text extent lie ≡ answer_text extent c due
+logarithm-shown extent c reply lie (Edited r) h = absurd h
+logarithm-shown extent c reply lie (Valued r series) h = absurd h
+logarithm-shown extent c reply lie (Logged r terms) h = ap₂ (λ (r : LookReply) (ts : List Term). decimal c ++ look_text (codes "log") r ++ log_levels_text extent ts) h.0 h.1
+logarithm-shown extent c reply lie (Refused r) h = absurd h
+
+-- one level more
+pub levels-more : (f : ℕ → List ℕ) (start text next : List ℕ) (k : ℕ) → text ≡ start ++ flat_map f (up_to k) → next ≡ text ++ f (k + 1) → next ≡ start ++ flat_map f (up_to (k + 1))
+levels-more f start text next k before step =
+    step ∙ ap₂ (λ (t : List ℕ) (n : ℕ). t ++ f n) before (add-one k)
+    ∙ flat_map_more f start (up_to k) (suc k)
+    ∙ ap (λ (n : ℕ). start ++ flat_map f (up_to n)) (sym (add-one k))

@@ -1,12 +1,16 @@
 -- The text that a run writes. Numbers are decimal; each line ends with a line feed.
-use Rattle.std.specs.Prelude.{ℕ, zero, suc, List, [], ◌∷◌, ◌++◌, map, flat_map, codes, ℤ, pos}
+use Rattle.std.specs.Prelude.{ℕ, zero, suc, ◌*◌, ◌==◌, if◌then◌else◌, List, [], ◌∷◌, ◌++◌, map, flat_map, codes, ℤ, pos}
 use Rattle.std.specs.List.{join_with_byte}
 use Rattle.std.specs.Fmt.{decimal, signed_decimal}
 use Rattle.definitions.specs.Words.{Extent, up_to, words_of, factorial}
-use Rattle.session.specs.declared.answer.EditReply.TheVariants.{Done, NameTaken}
+use Rattle.definitions.specs.Logarithm.{lcm_to}
+use Rattle.hall_set.specs.Hall.{hall_list, degree, text_of}
+use Rattle.hall_set.specs.declared.member.Member.{Member}
+use Rattle.lie_bracket.specs.declared.term.Term.{Term}
+use Rattle.versions.specs.declared.edit.EditReply.TheVariants.{Done, NameTaken, NoRow}
 use Rattle.session.specs.declared.answer.LookReply.{LookReply}
-use Rattle.session.specs.declared.answer.LookReply.TheVariants.{Found, Overflow}
-use Rattle.session.specs.Play.{Due, Edited, Valued, Refused, DueOutcome}
+use Rattle.session.specs.declared.answer.LookReply.TheVariants.{Found, NoVersion, Growth, GrowthLevel, Overflow}
+use Rattle.session.specs.Play.{Due, Edited, Valued, Logged, Refused, DueOutcome}
 
 -- the letters in round brackets, with commas between
 abbrev pub word_text : List ℕ → List ℕ
@@ -28,16 +32,38 @@ level_text extent series k =
 abbrev pub levels_text : Extent → (List ℕ → ℤ) → List ℕ
 levels_text extent series = flat_map (level_text extent series) (up_to extent.depth)
 
-abbrev pub look_text : LookReply → List ℕ
-look_text (Found version) = codes " sig version " ++ decimal version ++ codes "\n"
-look_text (Overflow weight) = codes " overflow " ++ decimal weight ++ codes "\n"
+-- ---- logarithms
+-- the text of a member of the Hall set and its coordinate, where it has degree k
+abbrev pub coordinate_text : List Member → ℕ → Term → List ℕ
+coordinate_text hall k t = if degree hall t.number == k then codes " " ++ text_of hall t.number ++ codes "=" ++ signed_decimal t.factor else []
+
+-- the members of degree k by rising number, with their coordinates over k k! lcm_to k
+abbrev pub log_level_text : Extent → List Term → ℕ → List ℕ
+log_level_text extent terms k =
+    codes "level " ++ decimal k ++ codes " over " ++ decimal (k * (factorial k * lcm_to k))
+    ++ flat_map (coordinate_text (hall_list extent.width extent.depth) k) terms
+    ++ codes "\n"
+
+abbrev pub log_levels_text : Extent → List Term → List ℕ
+log_levels_text extent terms = flat_map (log_level_text extent terms) (up_to extent.depth)
+
+-- ---- answers
+-- the reply to a query of this kind
+abbrev pub look_text : List ℕ → LookReply → List ℕ
+look_text kind (Found version) = codes " " ++ kind ++ codes " version " ++ decimal version ++ codes "\n"
+look_text kind (NoVersion version) = codes " no-version " ++ decimal version ++ codes "\n"
+look_text kind (Growth a b) = codes " growth " ++ decimal a ++ codes " " ++ decimal b ++ codes "\n"
+look_text kind (GrowthLevel k) = codes " growth-level " ++ decimal k ++ codes "\n"
+look_text kind (Overflow weight) = codes " overflow " ++ decimal weight ++ codes "\n"
 
 -- the answer to the command of number c
 abbrev pub answer_text : Extent → ℕ → Due → List ℕ
 answer_text extent c (Edited (Done version)) = decimal c ++ codes " done " ++ decimal version ++ codes "\n"
 answer_text extent c (Edited (NameTaken version)) = decimal c ++ codes " name-taken " ++ decimal version ++ codes "\n"
-answer_text extent c (Valued reply series) = decimal c ++ look_text reply ++ levels_text extent series
-answer_text extent c (Refused reply) = decimal c ++ look_text reply
+answer_text extent c (Edited (NoRow version)) = decimal c ++ codes " no-row " ++ decimal version ++ codes "\n"
+answer_text extent c (Valued reply series) = decimal c ++ look_text (codes "sig") reply ++ levels_text extent series
+answer_text extent c (Logged reply terms) = decimal c ++ look_text (codes "log") reply ++ log_levels_text extent terms
+answer_text extent c (Refused reply) = decimal c ++ look_text [] reply
 
 -- answers whose commands are numbered from c
 abbrev pub answers_text : Extent → ℕ → List Due → List ℕ

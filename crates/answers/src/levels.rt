@@ -10,7 +10,7 @@ use scaled_tensor::Tensor;
 use words::{Memory, Shape, sig_den};
 
 /// Appends a number in decimal.
-fn push_number<I: Integer>(text: &mut String, number: I) -> Result<(), Memory>
+pub(crate) fn push_number<I: Integer>(text: &mut String, number: I) -> Result<(), Memory>
     ensures { OnOk result (string_bytes text.new ≡ string_bytes text.old ++ I.text number) }
 {
     let mut buffer = Buffer::new();

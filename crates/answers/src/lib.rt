@@ -1,6 +1,7 @@
 //! The text that a run writes.
 #![tactic(auto)]
 
+mod coordinates;
 mod levels;
 #[cfg(test)]
 mod tests;

@@ -1,6 +1,7 @@
 ghost use Rattle.std.specs.Prelude.{◌≡◌};
 
 use crate::text_of;
+use hall_set::HallSet;
 use scaled_tensor::Tensor;
 use session::{Answer, EditReply, LookReply, Outcome, Transcript};
 use std::alloc::Global;
@@ -27,6 +28,8 @@ fn each_answer(rt: HostRuntime) -> Result<(), Fail> {
     let answers = vec![in alloc;
         Answer::Edit(EditReply::Done(1)),
         Answer::Edit(EditReply::NameTaken(1)),
+        Answer::Edit(EditReply::NoRow(1)),
+        Answer::Refused(LookReply::NoVersion(1)),
         Answer::Refused(LookReply::Overflow(60097)),
         Answer::Sig {
             reply: LookReply::Found { version: 1 },
@@ -38,13 +41,15 @@ fn each_answer(rt: HostRuntime) -> Result<(), Fail> {
         versions: 1,
     };
     assert_eq!(rt;
-        text_of(alloc, shape, &outcome)?.as_slice(),
+        text_of(alloc, &HallSet::build(alloc, shape)?, &outcome)?.as_slice(),
         b"shape 2 2
 session 1
 1 done 1
 2 name-taken 1
-3 overflow 60097
-4 sig version 1
+3 no-row 1
+4 no-version 1
+5 overflow 60097
+6 sig version 1
 level 1 over 1 (1)=2 (2)=-3
 level 2 over 2 (1,1)=4 (2,1)=-6 (2,2)=9
 versions 1
@@ -66,7 +71,7 @@ fn no_answers(rt: HostRuntime) -> Result<(), Fail> {
     };
     let expected = b"shape 12 1\nsession 1\nsession 2\nversions 0\n";
     assert_eq!(rt;
-        text_of(alloc, shape, &outcome)?.as_slice(),
+        text_of(alloc, &HallSet::build(alloc, shape)?, &outcome)?.as_slice(),
         expected.as_slice()
     );
     Ok(())

@@ -1,5 +1,4 @@
 use Rattle.std.proofs.Common.{◌≡◌, ◌++◌, List, take, string_bytes}
-use Rattle.definitions.specs.Words.{Extent}
 use Rattle.session.specs.Play.{Due}
 use Rattle.session.specs.Answers.{ShowsAll}
 use Rattle.answers.specs.Text.{sessions_text}
@@ -7,4 +6,4 @@ use Rattle.answers.proofs.text.push_sessions.Given as goal
 
 abbrev pub invariant-loop-before : goal.invariant-loop-before
 invariant-loop-before l =
-    (extent : Extent) (sessions : List (List Due)) → ShowsAll extent (take l.before l.transcripts) sessions → string_bytes l.text ≡ string_bytes l.initial.text ++ sessions_text extent 1 sessions
+    (sessions : List (List Due)) → ShowsAll l.hall (take l.before l.transcripts) sessions → string_bytes l.text ≡ string_bytes l.initial.text ++ sessions_text l.hall 1 sessions
