@@ -1,15 +1,18 @@
 //! The reply that is due, made whole before anything is written.
-ghost use Rattle.std.specs.Prelude.{◌≡◌, ◌<◌, ◌≤◌, IfOk};
+ghost use Rattle.std.specs.Prelude.{◌≡◌, ◌<◌, ◌≤◌, IfOk, OnOk};
 ghost use Rattle.std.specs.Option.{option_copied};
 ghost use Rattle.script_reader.specs.Script.{parse};
-ghost use Rattle.session.specs.Play.{due_outcome};
+ghost use Rattle.session.specs.Play.{opening, due_outcome};
+ghost use Rattle.session.specs.Logarithms.{AllLogarithms, LogarithmsExpand};
 ghost use Rattle.answers.specs.Text.{outcome_text};
 ghost use Rattle.rough_main.specs.Due.{script_reply, refusal_of, IsReply};
 
 use crate::fault_text::line_text;
 use answers::text_of;
 use command_line::{Form, Wish};
+use hall_set::HallSet;
 use script_reader::{Script, ScriptFault, read_script};
+use session::laws::logarithms_expand;
 use session::run;
 use std::alloc::Global;
 use std::sync::ledger::{Blank, Ledger};
@@ -31,7 +34,8 @@ fn counted_text<L: Ledger>(alloc: Global, script: &Script, blank: Blank) -> Resu
 {
     let mut steps: Steps<L> = Steps::new(blank);
     let outcome = run(alloc, script, &mut steps)?;
-    let text = text_of(alloc, script.shape(), &outcome)?;
+    let hall = HallSet::build(alloc, script.shape())?;
+    let text = text_of(alloc, &hall, &outcome)?;
     Ok(text)
 }
 
@@ -44,8 +48,10 @@ fn run_text(alloc: Global, script: &Script) -> Result<Vec<u8>, Memory>
 
 /// The reply to a script that is accepted.
 fn accepted(alloc: Global, script: &Script) -> Result<Reply, Memory>
-    ensures { IfOk result (λ reply. (reply.status ≡ 0) × (reply.text.items ≡ outcome_text script.now.extent (due_outcome script.now))) }
+    ensures reply { IfOk result (λ reply. (reply.status ≡ 0) × (reply.text.items ≡ outcome_text script.now.extent (due_outcome script.now))) }
+    ensures logarithms { AllLogarithms (opening script.now.extent) script.now.sessions (due_outcome script.now).transcripts }
 {
+    logarithms_expand(script);
     Ok(Reply {
         status: 0,
         text: run_text(alloc, script)?,
@@ -54,7 +60,8 @@ fn accepted(alloc: Global, script: &Script) -> Result<Reply, Memory>
 
 /// The reply to the bytes of a script.
 pub fn reply_to_script(alloc: Global, bytes: &[u8]) -> Result<Reply, Memory>
-    ensures { IfOk result (λ reply. IsReply reply.status reply.text.items (script_reply (parse bytes.now))) }
+    ensures reply { IfOk result (λ reply. IsReply reply.status reply.text.items (script_reply (parse bytes.now))) }
+    ensures logarithms { OnOk result (LogarithmsExpand (parse bytes.now)) }
 {
     let text = match read_script(alloc, bytes) {
         Ok(script) => return accepted(alloc, &script),

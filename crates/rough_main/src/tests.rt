@@ -4,7 +4,7 @@ use std::alloc::Global;
 use std::test::Fail;
 
 /// Scripts with their answers.
-const ANSWERED: [(&str, &str); 8] = [
+const ANSWERED: [(&str, &str); 12] = [
     // one row
     (
         "shape 2 2\n\
@@ -131,16 +131,163 @@ level 8 over 40320 (1,1,1,1,1,1,1,1)=1\n\
 5 overflow 60097\n\
 versions 2\n",
     ),
-    // a name that is live
+    // a name that is live, and one that isn't
     (
         "shape 1 1\n\
 session 1\n\
 append a 0 5\n\
-append a 1 6\n",
+append a 1 6\n\
+remove z\n\
+correct z 1\n",
         "shape 1 1\n\
 session 1\n\
 1 done 1\n\
 2 name-taken 1\n\
+3 no-row 1\n\
+4 no-row 1\n\
+versions 1\n",
+    ),
+    // corrections, and the versions before them
+    (
+        "shape 2 1\n\
+session 1\n\
+append a 0 2 3\n\
+correct a 0 0\n\
+correct a 2 3\n\
+sig 0 1 0 at 1\n\
+sig 0 1 0 at 2\n\
+sig 0 1 0 at 3\n",
+        "shape 2 1\n\
+session 1\n\
+1 done 1\n\
+2 done 2\n\
+3 done 3\n\
+4 sig version 1\n\
+level 1 over 1 (1)=2 (2)=3\n\
+5 sig version 2\n\
+level 1 over 1\n\
+6 sig version 3\n\
+level 1 over 1 (1)=2 (2)=3\n\
+versions 3\n",
+    ),
+    // a row that was removed and appended again comes last at its tick
+    (
+        "shape 2 2\n\
+session 1\n\
+append a 1 1 0\n\
+append b 1 0 1\n\
+remove a\n\
+append a 1 1 0\n\
+sig 1 2 0\n\
+sig 1 2 0 at 2\n",
+        "shape 2 2\n\
+session 1\n\
+1 done 1\n\
+2 done 2\n\
+3 done 3\n\
+4 done 4\n\
+5 sig version 4\n\
+level 1 over 1 (1)=1 (2)=1\n\
+level 2 over 2 (1,1)=1 (2,1)=2 (2,2)=1\n\
+6 sig version 2\n\
+level 1 over 1 (1)=1 (2)=1\n\
+level 2 over 2 (1,1)=1 (1,2)=2 (2,2)=1\n\
+versions 4\n",
+    ),
+    // versions that are and aren't there; a version that isn't comes before an overflow
+    (
+        "shape 1 1\n\
+session 1\n\
+append a 0 5\n\
+append b 1 7\n\
+sig 0 1 0 at 5\n\
+sig 0 1 0 at 0\n\
+sig 0 1 0 at 1\n",
+        "shape 1 1\n\
+session 1\n\
+1 done 1\n\
+2 done 2\n\
+3 no-version 2\n\
+4 sig version 0\n\
+level 1 over 1\n\
+5 sig version 1\n\
+level 1 over 1 (1)=5\n\
+versions 2\n",
+    ),
+    (
+        "shape 1 8\n\
+session 1\n\
+append a 0 60097\n\
+correct a 1\n\
+sig 0 1 0 at 3\n\
+sig 0 1 0 at 1\n",
+        "shape 1 8\n\
+session 1\n\
+1 done 1\n\
+2 done 2\n\
+3 no-version 2\n\
+4 overflow 60097\n\
+versions 2\n",
+    ),
+];
+
+const LOGARITHMS: [(&str, &str); 3] = [
+    // two rows in the order of time
+    (
+        "shape 2 4\n\
+session 1\n\
+append a 0 1 0\n\
+append b 1/2 0 1\n\
+log 0 1 0\n\
+log 0 1 0 at 3\n\
+log 0 1 0 at 1\n",
+        "shape 2 4\n\
+session 1\n\
+1 done 1\n\
+2 done 2\n\
+3 log version 2\n\
+level 1 over 1 1=1 2=1\n\
+level 2 over 8 [1,2]=4\n\
+level 3 over 108 [1,[1,2]]=9 [2,[1,2]]=-9\n\
+level 4 over 1152 [2,[1,[1,2]]]=-48\n\
+4 no-version 2\n\
+5 log version 1\n\
+level 1 over 1 1=1\n\
+level 2 over 8\n\
+level 3 over 108\n\
+level 4 over 1152\n\
+versions 2\n",
+    ),
+    // the greatest weight that fits
+    (
+        "shape 1 8\n\
+session 1\n\
+append a 0 6184\n\
+log 0 1 0\n",
+        "shape 1 8\n\
+session 1\n\
+1 done 1\n\
+2 log version 1\n\
+level 1 over 1 1=6184\n\
+level 2 over 8\n\
+level 3 over 108\n\
+level 4 over 1152\n\
+level 5 over 36000\n\
+level 6 over 259200\n\
+level 7 over 14817600\n\
+level 8 over 270950400\n\
+versions 1\n",
+    ),
+    // the least weight that does not
+    (
+        "shape 1 8\n\
+session 1\n\
+append a 0 6185\n\
+log 0 1 0\n",
+        "shape 1 8\n\
+session 1\n\
+1 done 1\n\
+2 overflow 6185\n\
 versions 1\n",
     ),
 ];
@@ -193,6 +340,16 @@ fn scripts_are_answered(rt: HostRuntime) -> Result<(), Fail> {
 }
 
 #[test]
+fn logarithms_are_answered(rt: HostRuntime) -> Result<(), Fail> {
+    for (script, answers) in LOGARITHMS {
+        let run = run_over_memory(rt.alloc(), &[], script, &[], &[])?;
+        assert_eq!(rt; run.status, 0);
+        assert_eq!(rt; run.written.as_str(), answers);
+    }
+    Ok(())
+}
+
+#[test]
 fn scripts_are_refused(rt: HostRuntime) -> Result<(), Fail> {
     for (script, refusal) in [
         ("shape 13 2\n", "fault line 1 width\n"),
@@ -210,7 +367,7 @@ fn scripts_are_refused(rt: HostRuntime) -> Result<(), Fail> {
             "shape 2 2\nsession 1\nsig 2 1 0\n",
             "fault line 3 interval\n",
         ),
-        ("shape 2 2\nsession 1\nremove a\n", "fault line 3 later\n"),
+        ("shape 2 2\nsession 1\nsession 2\n", "fault line 3 later\n"),
         ("", "fault line 1 end\n"),
     ] {
         let run = run_over_memory(rt.alloc(), &[], script, &[], &[])?;

@@ -5,6 +5,7 @@ ghost use Rattle.rough_io.specs.Counts.{Rose};
 ghost use Rattle.rough_io.specs.Transfers.{AddsPrefix, TakesAtMost};
 ghost use Rattle.command_line.specs.Wishes.{wish_of};
 ghost use Rattle.script_reader.specs.Script.{most_bytes, parse};
+ghost use Rattle.session.specs.Logarithms.{LogarithmsExpand};
 ghost use Rattle.rough_main.specs.Due.{script_reply, due_reply, refusal_of, IsReply, IsAnswer};
 
 use crate::reply::{Reply, refusal, reply_to_refused, reply_to_script};
@@ -27,6 +28,7 @@ const NO_MEMORY: u8 = 6;
 /// The reply that is due to the bytes of a source.
 fn reply_to_source<S: Source>(alloc: Global, source: &mut S) -> Result<Reply, ReceiveFault>
     ensures reply { (bytes : List ℕ) → S.left source.old ≡ Some bytes → IfOk result (λ reply. IsReply reply.status reply.text.items (script_reply (parse bytes))) }
+    ensures logarithms { (bytes : List ℕ) → S.left source.old ≡ Some bytes → OnOk result (LogarithmsExpand (parse bytes)) }
     ensures status { IfOk result (λ reply. (reply.status ≡ 0) ⊎ (reply.status ≡ 3)) }
     ensures whole { IfOk result (λ reply. reply.status ≡ 0 → IsAtEnd (S.left source.new)) }
     ensures size { (bytes : List ℕ) → S.left source.old ≡ Some bytes → most_bytes < length bytes → OnOk result (S.left source.new ≡ Some (drop (most_bytes + 1) bytes)) }
@@ -49,6 +51,7 @@ fn reply_to<S: Source>(
     source: &mut S,
 ) -> Result<Reply, ReceiveFault>
     ensures reply { (bytes : List ℕ) → S.left source.old ≡ Some bytes → IfOk result (λ reply. IsReply reply.status reply.text.items (due_reply (map string_bytes words.now) bytes)) }
+    ensures logarithms { (bytes : List ℕ) → S.left source.old ≡ Some bytes → IfOk result (λ reply. reply.status ≡ 0 → LogarithmsExpand (parse bytes)) }
     ensures status { IfOk result (λ reply. IsAnswer reply.status) }
     ensures refused { IfOk result (λ reply. (reply.status ≡ 2) ↔ IsSome (refusal_of (wish_of (map string_bytes words.now)))) }
     ensures whole { IfOk result (λ reply. reply.status ≡ 0 → IsAtEnd (S.left source.new)) }
@@ -106,6 +109,8 @@ pub fn rough_plain<S: Source, O: Sink>(
     // From the bytes that the source had left to the bytes that the sink was given.
     ensures answered { IsAnswer result → (bytes : List ℕ) → S.left source.old ≡ Some bytes →
         let due = due_reply (map string_bytes words.now) bytes in (result ≡ due.status) × Appends (O.written sink.old) (O.written sink.new) due.text }
+    // The Hall coordinates that are in that text, expanded by brackets, are exactly the logarithms.
+    ensures logarithms { result ≡ 0 → (bytes : List ℕ) → S.left source.old ≡ Some bytes → LogarithmsExpand (parse bytes) }
     ensures faultless { IsAnswer result → (S.faults source.new ≡ S.faults source.old) × (O.faults sink.new ≡ O.faults sink.old) }
 
     // Without a fault the due reply is written, or memory is wanting.

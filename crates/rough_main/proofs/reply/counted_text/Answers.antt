@@ -7,7 +7,7 @@ use Rattle.rough_main.proofs.reply.counted_text.Goals as goal
 
 pub returns : goal.returns
 returns g c =
-    let same : c.shape.result ≡ c.args.script.now.extent = c.shape.ensures.value in
+    let same : c.in_ok-hall.hall ≡ c.args.script.now.extent = c.in_ok-hall.ensures ∙ c.shape.ensures.value in
     c.in_ok-text.ensures (due_outcome c.args.script.now)
-    (subst (λ (e : Extent). IsOutcome e c.in_ok-outcome.outcome (due_outcome c.args.script.now)) (sym same) c.in_ok-outcome.ensures)
+    (subst (λ (e : Extent). IsOutcome e c.in_ok-outcome.outcome (due_outcome c.args.script.now)) (sym same) c.in_ok-outcome.ensures.outcome)
     ∙ ap (λ (e : Extent). outcome_text e (due_outcome c.args.script.now)) same

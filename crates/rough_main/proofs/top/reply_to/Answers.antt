@@ -1,5 +1,7 @@
 use Rattle.std.proofs.Common.{◌≡◌, ◌∙◌, sym, ap, arith, map, string_bytes, None, Global}
 use Rattle.command_line.specs.Wishes.{wish_of}
+use Rattle.script_reader.specs.Script.{parse}
+use Rattle.session.specs.Logarithms.{LogarithmsExpand}
 use Rattle.rough_main.specs.Due.{refusal_of}
 use Rattle.rough_main.proofs.Replies.{after-success}
 use Rattle.rough_main.proofs.top.reply_to.Goals as goal
@@ -15,3 +17,7 @@ returns-clause-reply g c = λ bytes told.
 pub returns-clause-size : goal.returns-clause-size
 returns-clause-size g c = λ bytes told long.
     after-success c.reply_to_source.result _ (λ reply. reply.status ≡ 3) (c.reply_to_source.ensures.size bytes told long)
+
+pub returns-clause-logarithms : goal.returns-clause-logarithms
+returns-clause-logarithms g c = λ bytes told.
+    after-success c.reply_to_source.result (LogarithmsExpand (parse bytes)) (λ reply. reply.status ≡ 0) (c.reply_to_source.ensures.logarithms bytes told)
