@@ -1,0 +1,9 @@
+pub mod Walks
+pub mod Play
+pub mod Plans
+pub mod Books
+pub mod Hits
+pub mod Looks
+pub mod Seen
+pub mod Expiry
+pub mod VersionRows

@@ -1,0 +1,73 @@
+//! Pairs go when their versions ended long ago.
+ghost use Rattle.std.specs.Prelude.{◌≡◌, ◌+◌, ◌-◌, ◌<◌, ◌≤◌, ◌&&◌, ◌++◌, [], ◌∷◌, List, length, filter, not, true, nat_le, IfSome, IfNone};
+ghost use Rattle.dyadic.specs.Nodes.{low_of, high_of};
+ghost use Rattle.versions.specs.declared.log.Accepted.{Accepted};
+ghost use Rattle.versions.specs.Versions.{LogValue, touched, since as since_version};
+ghost use Rattle.book.specs.Play.{is_past};
+ghost use Rattle.book.specs.Books.{AreKept};
+ghost use Rattle.book.specs.Expiry.{is_ended, IsTouchedHalf};
+
+use dyadic::Node;
+use node_cache::NodeCache;
+use versions::EditLog;
+
+/// So many edits after the one that touched its node, a pair goes.
+const SPAN: u64 = 64;
+
+/// Takes out the entries whose versions ended long ago, where none had before the last edit. That edit brings this upon nodes that hold
+/// the tick of one edit, which are walked from the coarsest one on. Takes no memory.
+pub fn drop_past(log: &EditLog, cache: &mut NodeCache)
+    requires { (before : List Accepted) → (last : Accepted) → log.now.edits ≡ before ++ last ∷ [] → AreKept (record { extent = log.now.extent; edits = before }) cache.old.entries }
+    ensures { cache.new ≡ record { capacity = cache.old.capacity; entries = filter (λ e. not (is_past log.now.edits e.node e.since)) cache.old.entries } }
+{
+    let version = log.len();
+    if version <= SPAN || cache.len() == 0 {
+        return;
+    }
+    let touch = version - SPAN;
+    let line = Node::new(0, -16).unwrap();
+    drop_ended(log, cache, line, touch, touch - 1);
+}
+
+/// Takes out the entries that the edit `touch` ended, of this node and those inside it. The edit touches the node, and after the version
+/// `upto` no edit before it does.
+fn drop_ended(log: &EditLog, cache: &mut NodeCache, node: Node, touch: u64, upto: u64)
+    requires within { touch ≤ length log.now.edits }
+    requires touches { touched (low_of node) (high_of node) log.now.edits touch ≡ true }
+    requires upto { upto < touch }
+    requires untouched { since_version (low_of node) (high_of node) log.now.edits (touch - 1) ≡ since_version (low_of node) (high_of node) log.now.edits upto }
+    ensures { cache.new ≡ record { capacity = cache.old.capacity; entries = filter (λ e. not (nat_le e.node.height node.height && is_ended log.now.edits touch e)) cache.old.entries } }
+{
+    let since = log.since(node, upto);
+    cache.drop_pair(node, since);
+    if let Some(half) = half_with(log, node, touch) {
+        drop_ended(log, cache, half, touch, since);
+    }
+}
+
+/// The half of a node that holds the tick of this edit, which the node holds.
+fn half_with(log: &EditLog, node: Node, touch: u64) -> Option<Node>
+    requires some { 1 ≤ touch }
+    requires within { touch ≤ length log.now.edits }
+    requires touches { touched (low_of node) (high_of node) log.now.edits touch ≡ true }
+    ensures half { IfSome result (IsTouchedHalf log.now.edits touch node) }
+    ensures none { IfNone result (node.height ≡ 0) }
+{
+    let left = node.left()?;
+    if touches(log, touch, left) {
+        return Some(left);
+    }
+    node.right()
+}
+
+/// Whether this edit has its tick in the node.
+fn touches(log: &EditLog, touch: u64, node: Node) -> bool
+    requires some { 1 ≤ touch }
+    requires within { touch ≤ length log.now.edits }
+    ensures { result ≡ touched (low_of node) (high_of node) log.now.edits touch }
+{
+    match log.touched_since(touch - 1, node) {
+        Some(first) => first == touch,
+        None => false,
+    }
+}
