@@ -1,3 +1,4 @@
+pub mod CapacityOfWish
 mod Examples
 pub mod Pieces
 pub mod SettingLaws

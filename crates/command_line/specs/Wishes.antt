@@ -1,5 +1,5 @@
 -- What a command line wishes.
-use Rattle.std.specs.Prelude.{ℕ, Bool, ◌&&◌, ◌||◌, nat_le, if◌then◌else◌, List, [], ◌∷◌, length, filter_map, Option, Some, None}
+use Rattle.std.specs.Prelude.{◌≤◌, ℕ, Bool, ◌&&◌, ◌||◌, nat_le, if◌then◌else◌, List, [], ◌∷◌, length, filter_map, Option, Some, None}
 use Rattle.command_line.specs.declared.setting.Setting.{Setting}
 use Rattle.command_line.specs.declared.setting.Setting.TheVariants.{Order, Cache, Json, Gen}
 use Rattle.command_line.specs.declared.wish.Form.{Form}
@@ -67,3 +67,14 @@ wish_in None = wishes.Refused
 -- the wish of the words, from left to right
 abbrev pub wish_of : List (List ℕ) → Wish
 wish_of words = wish_in (settings_in words)
+
+-- a capacity is from 1 to 16384
+abbrev pub IsCapacity : ℕ → Type 0
+IsCapacity capacity = (1 ≤ capacity) × (capacity ≤ 16384)
+
+-- the capacity of a wish, if it has one, is in that range
+abbrev pub HasCapacity : Wish → Type 0
+HasCapacity (wishes.Gen n capacity) = IsCapacity capacity
+HasCapacity (wishes.Given order capacity written) = IsCapacity capacity
+HasCapacity (wishes.Threads capacity written) = IsCapacity capacity
+HasCapacity wishes.Refused = Unit {0}
