@@ -1,6 +1,15 @@
-pub mod RowLaws
-pub mod PlayLaws
-pub mod PieceLaws
-pub mod LogLaws
-pub mod LoggedLaws
-pub mod ExpansionLaws
+mod AllowedLaws
+mod AskLaws
+mod BoundLaws
+mod ExpansionLaws
+mod NextLaws
+mod OpeningLaws
+mod OrderLaws
+mod OutcomeLaws
+mod PendingLaws
+mod PlaceLaws
+mod ReadyLaws
+mod RoundLaws
+mod RunLaws
+mod StepLaws
+mod TurnLaws

@@ -1,12 +1,14 @@
 -- When an answer that is kept, whose signature is a tensor, is the one that is due.
-use Rattle.std.specs.Prelude.{◌≡◌, ℕ, List, [], ◌∷◌, ℤ, All}
+use Rattle.std.specs.Prelude.{◌≡◌, ℕ, List, [], ◌∷◌, ℤ, All, None}
 use Rattle.hall_set.specs.Hall.{InHall, hall_list}
 use Rattle.definitions.specs.Words.{Extent, IsWord}
 use Rattle.scaled_tensor.specs.Tensors.{TensorValue, coefficient}
 use Rattle.session.specs.declared.answer.Answer.{Answer}
 use Rattle.session.specs.declared.answer.Answer.TheVariants as answers
 use Rattle.session.specs.declared.answer.Outcome.{Outcome}
-use Rattle.session.specs.Play.{Due, Edited, Valued, Logged, Refused, DueOutcome}
+use Rattle.script_reader.specs.declared.command.Kind.{Kind}
+use Rattle.book.specs.Play.{refused_by}
+use Rattle.session.specs.Play.{Due, Edited, Valued, Logged, Refused, DueOutcome, allowed_for}
 
 -- the tensor has these coefficients at the words of the extent
 pub record HasSeries (extent : Extent) (tensor : TensorValue) (series : List ℕ → ℤ) : Type 0 where
@@ -33,7 +35,12 @@ ShowsAll extent _ _ = ⊥
 -- the outcome is the one that is due
 pub record IsOutcome (extent : Extent) (outcome : Outcome) (due : DueOutcome) : Type 0 where
   pub transcripts : ShowsAll extent outcome.transcripts.items due.transcripts
+  pub order : outcome.order.items ≡ due.order
   pub versions : outcome.versions ≡ due.versions
+
+-- rows of this weight have a value of this kind
+abbrev pub IsAllowed : Extent → Kind → ℕ → Type 0
+IsAllowed extent kind weight = refused_by (allowed_for extent kind) weight ≡ None
 
 -- ---- what printing needs
 -- the numbers of a logarithm are those of members of the extent's Hall set

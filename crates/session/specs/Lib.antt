@@ -1,3 +1,4 @@
 pub mod Play
 pub mod Answers
 pub mod Logarithms
+pub mod Runs

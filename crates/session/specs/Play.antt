@@ -1,25 +1,47 @@
--- What a script is due: the reply to each command, from the edits that were accepted before it.
-use Rattle.std.specs.Prelude.{ℕ, ◌*◌, ◌^◌, Bool, nat_le, nat_lt, if◌then◌else◌, List, [], ◌∷◌, length, Option, Some, None, unwrap_or, ℤ}
-use Rattle.std.specs.List.{list_all}
+-- What a script is due in an order of its sessions: the answer to each command, and the versions.
+use Rattle.std.specs.Prelude.{ℕ, zero, suc, ◌+◌, ◌-◌, ◌*◌, Bool, nat_le, if◌then◌else◌, List, [], ◌∷◌, ◌++◌, drop, take, map, length, fold, sum_by, replicate, slice_index_or, slice_set, Option, Some, None, is_some, ℤ}
+use Rattle.std.specs.List.{find, list_any}
 use Rattle.definitions.specs.Words.{Extent, up_to}
-use Rattle.definitions.specs.Signature.{signature, weight, limit}
+use Rattle.definitions.specs.Signature.{signature}
 use Rattle.definitions.specs.Logarithm.{logarithm}
-use Rattle.definitions.specs.Rows.{RowValue, rounded, rows_in, moves_of}
+use Rattle.definitions.specs.Rows.{RowValue, moves_of}
 use Rattle.versions.specs.declared.edit.EditReply.{EditReply}
-use Rattle.versions.specs.Versions.{LogValue, rows_at, edit_reply, after_edit}
+use Rattle.versions.specs.Versions.{edit_reply}
 use Rattle.hall_set.specs.Hall.{hall_list}
 use Rattle.lie_bracket.specs.declared.term.Term.{Term}
 use Rattle.lie_bracket.specs.Tables.{heavy_pair}
-use Rattle.dynkin_map.specs.Coordinates.{heavy_level, lie_bound, coordinates}
+use Rattle.dynkin_map.specs.Coordinates.{heavy_level, lie_bounds, coordinates}
 use Rattle.script_reader.specs.declared.command.Ask.{Ask}
 use Rattle.script_reader.specs.declared.command.Kind.{Kind}
 use Rattle.script_reader.specs.declared.command.Kind.TheVariants as kinds
 use Rattle.script_reader.specs.declared.command.Command.{Command}
 use Rattle.script_reader.specs.declared.command.Command.TheVariants as commands
 use Rattle.script_reader.specs.Script.{ScriptValue}
-use Rattle.session.specs.declared.answer.LookReply.{LookReply}
-use Rattle.session.specs.declared.answer.LookReply.TheVariants.{Found, NoVersion, Growth, GrowthLevel, Overflow}
+use Rattle.book.specs.declared.query.Query.{Query}
+use Rattle.book.specs.declared.query.Allowed.{Allowed}
+use Rattle.book.specs.declared.query.Allowed.TheVariants.{Pair, Level, Fits}
+use Rattle.book.specs.declared.step.LookReply.{LookReply}
+use Rattle.book.specs.Play.{State, Request, Editing, Looking, Settling, PendingLook, opening, after, pending_of, found, look_refusal, looked_rows}
 
+-- ---- what is asked of the book
+-- why there are no tables of a shape, or the bound of a logarithm
+abbrev pub allowed_by : Option (ℕ × ℕ) → Option ℕ → List ℕ → Allowed
+allowed_by (Some pair) level factors = Pair pair.0 pair.1
+allowed_by None (Some level) factors = Level level
+allowed_by None None factors = Fits factors
+
+abbrev pub allowed_for : Extent → Kind → Allowed
+allowed_for extent kinds.Sig = Fits (replicate extent.depth 1)
+allowed_for extent kinds.Log = allowed_by (heavy_pair extent.depth (hall_list extent.width extent.depth)) (heavy_level extent) (lie_bounds extent)
+
+abbrev pub query_for : Extent → Ask → Query
+query_for extent ask = record { kind = ask.kind; from = ask.from; to = ask.to; r = ask.r; version = ask.version; allowed = allowed_for extent ask.kind }
+
+abbrev pub request_for : Extent → ℕ → Command → Request
+request_for extent session (commands.Edit edit) = Editing session edit
+request_for extent session (commands.Ask ask) = Looking session (query_for extent ask)
+
+-- ---- answers
 -- an answer: a signature is the series of its numerators, a logarithm the list of its nonzero Hall coordinates
 pub data Due : Type 0 where
   Edited : EditReply → Due
@@ -27,94 +49,123 @@ pub data Due : Type 0 where
   Logged : LookReply → List Term → Due
   Refused : LookReply → Due
 
--- the version that is asked for: the current one, where none is named
-abbrev pub asked_version : LogValue → Ask → ℕ
-asked_version log ask = unwrap_or ask.version (length log.edits)
+abbrev pub valued : Extent → Kind → LookReply → List RowValue → Due
+valued extent kinds.Sig reply rows = Valued reply (signature (moves_of rows))
+valued extent kinds.Log reply rows = Logged reply (coordinates extent (logarithm (signature (moves_of rows))))
 
--- the rows in the interval at its resolution
-abbrev pub asked_rows : Ask → List RowValue → List RowValue
-asked_rows ask rows = rows_in (rounded ask.r ask.from) (rounded ask.r ask.to) rows
+abbrev pub unless : Option LookReply → Due → Due
+unless None due = due
+unless (Some reply) due = Refused reply
 
--- their signature, where they fit
-abbrev pub value_or_overflow : Extent → ℕ → List RowValue → Due
-value_or_overflow extent version rows =
-    if nat_le (weight (moves_of rows) ^ extent.depth) limit then Valued (Found version) (signature (moves_of rows))
-    else Refused (Overflow (weight (moves_of rows)))
+-- the value of the rows of the version in the rounded interval, where they have one
+abbrev pub looked : Extent → State → Query → Due
+looked extent state q = unless (look_refusal state.edits q) (valued extent q.kind (found state q) (looked_rows state.edits q))
 
--- ---- logarithms
--- the k-th power of the weight times the k-th bound is at most the limit, for each k up to the depth
-abbrev pub log_fits : Extent → ℕ → Bool
-log_fits extent v = list_all (λ k. nat_le (v ^ k * lie_bound extent k) limit) (up_to extent.depth)
+-- the answer to a request; to settle is no command
+abbrev pub answers_to : Extent → State → Request → List Due
+answers_to extent state (Editing session edit) = Edited (edit_reply state.edits edit) ∷ []
+answers_to extent state (Looking session q) = looked extent state q ∷ []
+answers_to extent state (Settling session) = []
 
--- why there are no tables of a shape
-abbrev pub refused_level : Option ℕ → Option LookReply
-refused_level None = None
-refused_level (Some k) = Some (GrowthLevel k)
+-- ---- runs
+-- the state of the book, and for each session the commands that are left and the answers so far
+pub record Run : Type 0 where
+  pub state : State
+  pub left : List (List Command)
+  pub transcripts : List (List Due)
 
-abbrev pub refused_pair : Option (ℕ × ℕ) → Option LookReply → Option LookReply
-refused_pair None later = later
-refused_pair (Some pair) later = Some (Growth pair.0 pair.1)
+abbrev pub opening_run : ScriptValue → Run
+opening_run script = record {
+  state = opening (length script.sessions);
+  left = script.sessions;
+  transcripts = replicate (length script.sessions) [];
+}
 
-abbrev pub tables_refusal : Extent → Option LookReply
-tables_refusal extent = refused_pair (heavy_pair extent.depth (hall_list extent.width extent.depth)) (refused_level (heavy_level extent))
+-- the list of a session, whose number counts from 1
+abbrev pub of_session : {X : Type 0} → ℕ → List (List X) → List X
+of_session session lists = slice_index_or lists (session - 1) []
 
-abbrev pub refused_or : Option LookReply → Due → Due
-refused_or None due = due
-refused_or (Some reply) due = Refused reply
+-- a pending look is settled, before the next command
+abbrev pub next_of : Extent → ℕ → Option PendingLook → List Command → Option Request
+next_of extent session (Some look) left = Some (Settling session)
+next_of extent session None [] = None
+next_of extent session None (command ∷ left) = Some (request_for extent session command)
 
--- the coordinates of their logarithm, where there are tables and they fit
-abbrev pub logged : Extent → ℕ → List RowValue → Due
-logged extent version rows =
-    refused_or (tables_refusal extent)
-    (if log_fits extent (weight (moves_of rows)) then Logged (Found version) (coordinates extent (logarithm (signature (moves_of rows))))
-    else Refused (Overflow (weight (moves_of rows))))
+-- what a session does next, if there is such a session and it has anything to do
+abbrev pub next_request : Extent → ℕ → Run → Option Request
+next_request extent zero run = None
+next_request extent (suc n) run = next_of extent (suc n) (pending_of (suc n) run.state.pending) (of_session (suc n) run.left)
 
--- ---- queries
-abbrev pub valued : Kind → Extent → ℕ → List RowValue → Due
-valued kinds.Sig extent version rows = value_or_overflow extent version rows
-valued kinds.Log extent version rows = logged extent version rows
+abbrev pub has_next : Extent → Run → ℕ → Bool
+has_next extent run session = is_some (next_request extent session run)
 
--- the value of the rows of that version, where there is one
-abbrev pub looked : LogValue → Ask → Due
-looked log ask =
-    if nat_lt (length log.edits) (asked_version log ask) then Refused (NoVersion (length log.edits))
-    else valued ask.kind log.extent (asked_version log ask) (asked_rows ask (rows_at log.edits (asked_version log ask)))
+-- a settle leaves the commands as they are, each other request takes one
+abbrev pub left_after : ℕ → Request → List (List Command) → List (List Command)
+left_after session (Settling s) left = left
+left_after session _ left = slice_set left (session - 1) (drop 1 (of_session session left))
 
-abbrev pub due : LogValue → Command → Due
-due log (commands.Edit edit) = Edited (edit_reply log.edits edit)
-due log (commands.Ask ask) = looked log ask
+abbrev pub with_request : ℕ → Extent → ℕ → Request → Run → Run
+with_request capacity extent session request run = record {
+  state = after capacity run.state request;
+  left = left_after session request run.left;
+  transcripts = slice_set run.transcripts (session - 1) (of_session session run.transcripts ++ answers_to extent run.state request);
+}
 
-abbrev pub after : LogValue → Command → LogValue
-after log (commands.Edit edit) = record log { edits = after_edit log.edits edit }
-after log (commands.Ask ask) = log
+abbrev pub with_next : ℕ → Extent → ℕ → Option Request → Run → Run
+with_next capacity extent session None run = run
+with_next capacity extent session (Some request) run = with_request capacity extent session request run
 
--- the answers of a session
-abbrev pub dues : LogValue → List Command → List Due
-dues log [] = []
-dues log (command ∷ commands) = due log command ∷ dues (after log command) commands
+-- the run after one step of a session
+abbrev pub stepped : ℕ → Extent → ℕ → Run → Run
+stepped capacity extent session run = with_next capacity extent session (next_request extent session run) run
 
-abbrev pub after_all : LogValue → List Command → LogValue
-after_all log [] = log
-after_all log (command ∷ commands) = after_all (after log command) commands
+-- ---- orders
+abbrev pub run_in : ℕ → Extent → List ℕ → Run → Run
+run_in capacity extent order run = fold (λ r session. stepped capacity extent session r) run order
 
--- ---- the sessions, one after another
-abbrev pub session_dues : LogValue → List (List Command) → List (List Due)
-session_dues log [] = []
-session_dues log (session ∷ sessions) = dues log session ∷ session_dues (after_all log session) sessions
+-- a session has something to do
+abbrev pub has_any : Extent → Run → Bool
+has_any extent run = list_any (has_next extent run) (up_to (length run.left))
 
-abbrev pub after_sessions : LogValue → List (List Command) → LogValue
-after_sessions log [] = log
-after_sessions log (session ∷ sessions) = after_sessions (after_all log session) sessions
+-- the first place of an order, where they count from this one, at which the session has nothing to do, or past its end where any has
+abbrev pub illegal_from : ℕ → ℕ → Extent → List ℕ → Run → Option ℕ
+illegal_from capacity place extent [] run = if has_any extent run then Some place else None
+illegal_from capacity place extent (session ∷ order) run =
+    if has_next extent run session then illegal_from capacity (suc place) extent order (stepped capacity extent session run) else Some place
 
-abbrev pub opening : Extent → LogValue
-opening extent = record { extent = extent; edits = [] }
+abbrev pub illegal_place : ℕ → ScriptValue → List ℕ → Option ℕ
+illegal_place capacity script order = illegal_from capacity 1 script.extent order (opening_run script)
 
+-- the sessions after this one, and then those up to it
+abbrev pub turns_after : ℕ → ℕ → List ℕ
+turns_after last sessions = drop last (up_to sessions) ++ take last (up_to sessions)
+
+abbrev pub next_turn : Extent → ℕ → Run → Option ℕ
+next_turn extent last run = find (has_next extent run) (turns_after last (length run.left))
+
+-- the order in which sessions take one step each in turn, passing over those without one, of so many steps at most
+abbrev pub turns_from : ℕ → ℕ → Extent → ℕ → Run → List ℕ
+turns_from capacity zero extent last run = []
+turns_from capacity (suc steps) extent last run =
+    elim (next_turn extent last run) [
+      | None ↦ []
+      | Some session ↦ session ∷ turns_from capacity steps extent session (stepped capacity extent session run)
+    ]
+
+-- each command is one step, and each look may be followed by a settle
+abbrev pub most_steps : ScriptValue → ℕ
+most_steps script = 2 * sum_by length script.sessions
+
+abbrev pub round_order : ℕ → ScriptValue → List ℕ
+round_order capacity script = turns_from capacity (most_steps script) script.extent 0 (opening_run script)
+
+-- ---- outcomes
 pub record DueOutcome : Type 0 where
   pub transcripts : List (List Due)
+  pub order : List ℕ
   pub versions : ℕ
 
-abbrev pub due_outcome : ScriptValue → DueOutcome
-due_outcome script = record {
-  transcripts = session_dues (opening script.extent) script.sessions;
-  versions = length (after_sessions (opening script.extent) script.sessions).edits;
-}
+abbrev pub due_outcome : ℕ → ScriptValue → List ℕ → DueOutcome
+due_outcome capacity script order =
+    let run : Run = run_in capacity script.extent order (opening_run script) in
+    record { transcripts = run.transcripts; order = order; versions = length run.state.edits }

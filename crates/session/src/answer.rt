@@ -1,24 +1,12 @@
-ghost use Rattle.std.specs.Prelude.{◌≡◌};
+ghost use Rattle.std.specs.Prelude.{◌≡◌, ◌++◌, ◌∷◌, [], OnOk, OnErr};
 
+use book::LookReply;
 use lie_bracket::LieElement;
 use scaled_tensor::Tensor;
+use std::alloc::Global;
 use std::marker::Model;
 use versions::EditReply;
-
-/// The reply to a query.
-#[derive(Debug, Clone, Copy, PartialEq, Eq, Drop)]
-pub enum LookReply {
-    /// There is a value, of this version.
-    Found { version: u64 },
-    /// No such version: the current one.
-    NoVersion(u64),
-    /// The bracket of these two members of the Hall set is too heavy.
-    Growth(u32, u32),
-    /// The images of words of so many letters are too heavy.
-    GrowthLevel(u32),
-    /// The rows don't fit: their weight.
-    Overflow(u128),
-}
+use words::Memory;
 
 /// The answer to a command.
 #[derive(Drop)]
@@ -55,6 +43,24 @@ impl Transcript {
         Transcript { answers }
     }
 
+    /// No answers.
+    pub fn new(alloc: Global) -> Transcript
+        ensures { result ≡ [] }
+    {
+        Transcript {
+            answers: Vec::new(alloc),
+        }
+    }
+
+    /// Adds an answer at the end. An answer that finds no room is dropped.
+    pub fn push(&mut self, answer: Answer) -> Result<(), Memory>
+        ensures ok { OnOk result (self.new ≡ self.old ++ answer ∷ []) }
+        ensures err { OnErr result (self.new ≡ self.old) }
+    {
+        self.answers.push(answer)?;
+        Ok(())
+    }
+
     /// The answers as a slice.
     pub fn list(&self) -> &[Answer]
         ensures { result.now ≡ self.now }
@@ -68,6 +74,8 @@ impl Transcript {
 pub struct Outcome {
     /// One for each session.
     pub transcripts: Vec<Transcript>,
+    /// The session of each step, in the order in which they were taken.
+    pub order: Vec<u32>,
     /// The last version.
     pub versions: u64,
 }

@@ -1,7 +1,7 @@
-//! A law of runs. The function does nothing: what it ensures is the law.
-ghost use Rattle.script_reader.specs.Script.{IsScript};
-ghost use Rattle.session.specs.Play.{opening, due_outcome};
-ghost use Rattle.session.specs.Logarithms.{AllLogarithms};
+//! Laws of runs. The functions do nothing: what each ensures is the law.
+ghost use Rattle.std.specs.Prelude.{◌≡◌, ℕ, List, None};
+ghost use Rattle.session.specs.Play.{illegal_place, round_order};
+ghost use Rattle.session.specs.Logarithms.{ExpandIn};
 
 use script_reader::Script;
 
@@ -9,7 +9,14 @@ use script_reader::Script;
 /// word of k letters, the sum over the members of the Hall set, with their coordinates, of their expansions is k times the logarithm of
 /// the signature of the rows. (Reutenauer, Free Lie Algebras, theorem 1.4 and section 3.1.)
 pub fn logarithms_expand(script: &Script)
-    ensures { AllLogarithms (opening script.now.extent) script.now.sessions (due_outcome script.now).transcripts }
+    ensures { (capacity : ℕ) → (order : List ℕ) → ExpandIn capacity script.now order }
+{
+    let _shape = script.shape();
+}
+
+/// The steps of a round are legal: each is of a session that has anything to do, and after the last one none has.
+pub fn round_is_legal(script: &Script)
+    ensures { (capacity : ℕ) → illegal_place capacity script.now (round_order capacity script.now) ≡ None }
 {
     let _shape = script.shape();
 }

@@ -1,14 +1,14 @@
-//! A run of a script: the answer of each command.
+//! The sessions of a script over one book: the answer to each command, in an order of their steps.
 #![tactic(auto)]
 
 pub mod answer;
 pub mod laws;
-mod logarithm;
-mod look;
-mod pieces;
-mod rows;
-mod runs;
+pub mod orders;
+mod query;
+pub mod run;
+mod value;
 
-pub use answer::{Answer, LookReply, Outcome, Transcript};
-pub use runs::run;
+pub use answer::{Answer, Outcome, Transcript};
+pub use book::LookReply;
+pub use orders::{ReplayFault, replay, replay_round};
 pub use versions::EditReply;
