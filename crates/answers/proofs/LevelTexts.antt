@@ -10,7 +10,7 @@ use Rattle.definitions.specs.Words.{Extent, IsWord, number, up_to, words_of, fac
 use Rattle.definitions.proofs.WordLists.{IsNumbered, length-words_of, word-numbered}
 use Rattle.scaled_tensor.specs.Tensors.{TensorValue, coefficient}
 use Rattle.lie_bracket.specs.declared.term.Term.{Term}
-use Rattle.session.specs.declared.answer.LookReply.{LookReply}
+use Rattle.book.specs.declared.step.LookReply.{LookReply}
 use Rattle.session.specs.declared.answer.Answer.TheVariants.{Sig, Log}
 use Rattle.session.specs.Play.{Due, Edited, Valued, Logged, Refused}
 use Rattle.session.specs.Answers.{HasSeries, Shows}

@@ -8,8 +8,8 @@ use Rattle.hall_set.specs.Hall.{hall_list, degree, text_of}
 use Rattle.hall_set.specs.declared.member.Member.{Member}
 use Rattle.lie_bracket.specs.declared.term.Term.{Term}
 use Rattle.versions.specs.declared.edit.EditReply.TheVariants.{Done, NameTaken, NoRow}
-use Rattle.session.specs.declared.answer.LookReply.{LookReply}
-use Rattle.session.specs.declared.answer.LookReply.TheVariants.{Found, NoVersion, Growth, GrowthLevel, Overflow}
+use Rattle.book.specs.declared.step.LookReply.{LookReply}
+use Rattle.book.specs.declared.step.LookReply.TheVariants.{Found, NoVersion, Pair, Level, Overflow}
 use Rattle.session.specs.Play.{Due, Edited, Valued, Logged, Refused, DueOutcome}
 
 -- the letters in round brackets, with commas between
@@ -50,10 +50,11 @@ log_levels_text extent terms = flat_map (log_level_text extent terms) (up_to ext
 -- ---- answers
 -- the reply to a query of this kind
 abbrev pub look_text : List ℕ → LookReply → List ℕ
-look_text kind (Found version) = codes " " ++ kind ++ codes " version " ++ decimal version ++ codes "\n"
+look_text kind (Found version hits misses exps) =
+    codes " " ++ kind ++ codes " version " ++ decimal version ++ codes " hits " ++ decimal hits ++ codes " misses " ++ decimal misses ++ codes " exps " ++ decimal exps ++ codes "\n"
 look_text kind (NoVersion version) = codes " no-version " ++ decimal version ++ codes "\n"
-look_text kind (Growth a b) = codes " growth " ++ decimal a ++ codes " " ++ decimal b ++ codes "\n"
-look_text kind (GrowthLevel k) = codes " growth-level " ++ decimal k ++ codes "\n"
+look_text kind (Pair a b) = codes " growth " ++ decimal a ++ codes " " ++ decimal b ++ codes "\n"
+look_text kind (Level k) = codes " growth-level " ++ decimal k ++ codes "\n"
 look_text kind (Overflow weight) = codes " overflow " ++ decimal weight ++ codes "\n"
 
 -- the answer to the command of number c
@@ -75,8 +76,14 @@ abbrev pub sessions_text : Extent → ℕ → List (List Due) → List ℕ
 sessions_text extent s [] = []
 sessions_text extent s (dues ∷ sessions) = codes "session " ++ decimal s ++ codes "\n" ++ answers_text extent 1 dues ++ sessions_text extent (suc s) sessions
 
+-- the session of each step, in order
+abbrev pub order_text : List ℕ → List ℕ
+order_text [] = codes "none"
+order_text (session ∷ order) = join_with_byte 44 (map decimal (session ∷ order))
+
 abbrev pub outcome_text : Extent → DueOutcome → List ℕ
 outcome_text extent outcome =
     codes "shape " ++ decimal extent.width ++ codes " " ++ decimal extent.depth ++ codes "\n"
     ++ sessions_text extent 1 outcome.transcripts
+    ++ codes "order " ++ order_text outcome.order ++ codes "\n"
     ++ codes "versions " ++ decimal outcome.versions ++ codes "\n"

@@ -18,8 +18,8 @@ pub(crate) fn push_number<I: Integer>(text: &mut String, number: I) -> Result<()
     Ok(())
 }
 
-/// Appends the letters with commas between.
-fn push_letters(text: &mut String, word: &[u32]) -> Result<(), Memory>
+/// Appends numbers with commas between.
+pub(crate) fn push_joined(text: &mut String, word: &[u32]) -> Result<(), Memory>
     ensures { OnOk result (string_bytes text.new ≡ string_bytes text.old ++ join_with_byte 44 (map decimal word.now)) }
 {
     let Some((first, rest)) = word.split_first() else {
@@ -38,7 +38,7 @@ fn push_term(text: &mut String, word: &[u32], value: i128) -> Result<(), Memory>
     ensures { OnOk result (string_bytes text.new ≡ string_bytes text.old ++ (codes " " ++ word_text word.now ++ codes "=" ++ signed_decimal value)) }
 {
     text.push_str(" (")?;
-    push_letters(text, word)?;
+    push_joined(text, word)?;
     text.push_str(")=")?;
     push_number(text, value)
 }

@@ -32,12 +32,18 @@ fn each_answer(rt: HostRuntime) -> Result<(), Fail> {
         Answer::Refused(LookReply::NoVersion(1)),
         Answer::Refused(LookReply::Overflow(60097)),
         Answer::Sig {
-            reply: LookReply::Found { version: 1 },
+            reply: LookReply::Found {
+                version: 1,
+                hits: 2,
+                misses: 3,
+                exps: 4
+            },
             tensor: tensor(alloc, shape)?
         },
     ]?;
     let outcome = Outcome {
         transcripts: vec![in alloc; Transcript::of(answers)]?,
+        order: vec![in alloc; 1, 2, 1]?,
         versions: 1,
     };
     assert_eq!(rt;
@@ -49,9 +55,10 @@ session 1
 3 no-row 1
 4 no-version 1
 5 overflow 60097
-6 sig version 1
+6 sig version 1 hits 2 misses 3 exps 4
 level 1 over 1 (1)=2 (2)=-3
 level 2 over 2 (1,1)=4 (2,1)=-6 (2,2)=9
+order 1,2,1
 versions 1
 "
             .as_slice()
@@ -67,9 +74,10 @@ fn no_answers(rt: HostRuntime) -> Result<(), Fail> {
     let second = Transcript::of(Vec::new(alloc));
     let outcome = Outcome {
         transcripts: vec![in alloc; first, second]?,
+        order: Vec::new(alloc),
         versions: 0,
     };
-    let expected = b"shape 12 1\nsession 1\nsession 2\nversions 0\n";
+    let expected = b"shape 12 1\nsession 1\nsession 2\norder none\nversions 0\n";
     assert_eq!(rt;
         text_of(alloc, &HallSet::build(alloc, shape)?, &outcome)?.as_slice(),
         expected.as_slice()

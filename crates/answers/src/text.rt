@@ -2,10 +2,10 @@ ghost use Rattle.std.specs.Prelude.{◌≡◌, ◌++◌, ℕ, List, map, codes, 
 ghost use Rattle.std.specs.Fmt.{decimal};
 ghost use Rattle.session.specs.Play.{Due, DueOutcome};
 ghost use Rattle.session.specs.Answers.{Shows, ShowsEach, ShowsAll, IsOutcome, HasMembers, AllHaveMembers};
-ghost use Rattle.answers.specs.Text.{look_text, answer_text, answers_text, sessions_text, outcome_text};
+ghost use Rattle.answers.specs.Text.{look_text, answer_text, answers_text, sessions_text, order_text, outcome_text};
 
 use crate::coordinates::push_log_levels;
-use crate::levels::push_levels;
+use crate::levels::{push_joined, push_levels};
 use hall_set::HallSet;
 use session::{Answer, EditReply, LookReply, Outcome, Transcript};
 use std::alloc::Global;
@@ -16,10 +16,18 @@ fn push_look(text: &mut String, kind: &str, reply: LookReply) -> Result<(), Memo
     ensures { OnOk result (string_bytes text.new ≡ string_bytes text.old ++ look_text kind.now reply) }
 {
     match reply {
-        LookReply::Found { version } => writeln!(text, " {kind} version {version}")?,
+        LookReply::Found {
+            version,
+            hits,
+            misses,
+            exps,
+        } => {
+            write!(text, " {kind} version {version}")?;
+            writeln!(text, " hits {hits} misses {misses} exps {exps}")?
+        }
         LookReply::NoVersion(version) => writeln!(text, " no-version {version}")?,
-        LookReply::Growth(a, b) => writeln!(text, " growth {a} {b}")?,
-        LookReply::GrowthLevel(k) => writeln!(text, " growth-level {k}")?,
+        LookReply::Pair(a, b) => writeln!(text, " growth {a} {b}")?,
+        LookReply::Level(k) => writeln!(text, " growth-level {k}")?,
         LookReply::Overflow(weight) => writeln!(text, " overflow {weight}")?,
     }
     Ok(())
@@ -87,7 +95,18 @@ fn push_sessions(
     Ok(())
 }
 
-/// The text of an outcome: the shape, the answers of each session, and the last version.
+/// Appends the sessions of the steps, with commas between; `none` where there are no steps.
+fn push_order(text: &mut String, order: &[u32]) -> Result<(), Memory>
+    ensures { OnOk result (string_bytes text.new ≡ string_bytes text.old ++ order_text order.now) }
+{
+    if order.is_empty() {
+        text.push_str("none")?;
+        return Ok(());
+    }
+    push_joined(text, order)
+}
+
+/// The text of an outcome: the shape, the answers of each session, the order of the steps, and the last version.
 /// Where the outcome is the one that is due, so is its text. The set is that of the outcome's shape.
 pub fn text_of(alloc: Global, hall: &HallSet, outcome: &Outcome) -> Result<Vec<u8>, Memory>
     requires { AllHaveMembers hall.now outcome.now }
@@ -100,6 +119,9 @@ pub fn text_of(alloc: Global, hall: &HallSet, outcome: &Outcome) -> Result<Vec<u
     let versions = outcome.versions;
     writeln!(text, "shape {width} {depth}")?;
     push_sessions(&mut text, hall, &outcome.transcripts)?;
+    write!(text, "order ")?;
+    push_order(&mut text, &outcome.order)?;
+    writeln!(text)?;
     writeln!(text, "versions {versions}")?;
     Ok(text.into_bytes())
 }

@@ -2,7 +2,7 @@ use Rattle.std.proofs.Common.{◌≡◌, ◌∙◌, ◌++◌, ◌∷◌, List, �
 use Rattle.std.proofs.lemmas.List.{take_all, append_assoc}
 use Rattle.std.specs.Fmt.{decimal}
 use Rattle.answers.proofs.LevelTexts.{letters-joined}
-use Rattle.answers.proofs.levels.push_letters.Goals as goal
+use Rattle.answers.proofs.levels.push_joined.Goals as goal
 
 pub returns : goal.returns
 returns c =
