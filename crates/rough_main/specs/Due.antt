@@ -10,7 +10,7 @@ use Rattle.script_reader.specs.declared.fault.Reason.TheVariants.{Byte, Keyword,
 use Rattle.script_reader.specs.declared.fault.ScriptFault.{ScriptFault}
 use Rattle.script_reader.specs.declared.fault.ScriptFault.TheVariants.{Size, Line, Memory}
 use Rattle.script_reader.specs.Script.{ScriptValue, parse}
-use Rattle.session.specs.Play.{due_outcome}
+use Rattle.session.specs.Play.{due_outcome, illegal_place, round_order}
 use Rattle.answers.specs.Text.{outcome_text}
 
 pub record DueReply : Type 0 where
@@ -46,23 +46,57 @@ fault_text Size = codes "fault size\n"
 fault_text (Line n reason) = line_text n reason
 fault_text Memory = []
 
--- the answers of an accepted script, or why it is refused
-abbrev pub script_reply : Result ScriptValue ScriptFault → DueReply
-script_reply (Ok script) = record { status = 0; text = outcome_text script.extent (due_outcome script) }
-script_reply (Err fault) = record { status = 3; text = fault_text fault }
+-- the answers of a script whose sessions take their steps in this order
+abbrev pub answered : ℕ → ScriptValue → List ℕ → DueReply
+answered capacity script order = record { status = 0; text = outcome_text script.extent (due_outcome capacity script order) }
 
+abbrev pub place_text : ℕ → List ℕ
+place_text place = codes "fault order place " ++ decimal place ++ codes "\n"
+
+-- unless the order is illegal at a place
+abbrev pub unless_illegal : Option ℕ → DueReply → DueReply
+unless_illegal None reply = reply
+unless_illegal (Some place) reply = record { status = 3; text = place_text place }
+
+-- the order that is given, or turns
+abbrev pub ordered : ℕ → ScriptValue → Option (List ℕ) → DueReply
+ordered capacity script (Some order) = unless_illegal (illegal_place capacity script order) (answered capacity script order)
+ordered capacity script None = answered capacity script (round_order capacity script)
+
+-- the answers of an accepted script, or why it is refused
+abbrev pub script_reply : ℕ → Option (List ℕ) → Result ScriptValue ScriptFault → DueReply
+script_reply capacity order (Ok script) = ordered capacity script order
+script_reply capacity order (Err fault) = record { status = 3; text = fault_text fault }
+
+-- ---- wishes
 -- why a wish is refused before anything is read: the words are wrong, or what they wish is not built yet
 abbrev pub refusal_of : Wish → Option (List ℕ)
 refusal_of (wishes.Threads capacity form.Text) = None
+refusal_of (wishes.Given order capacity form.Text) = None
 refusal_of wishes.Refused = Some (codes "fault words\n")
 refusal_of _ = Some (codes "fault later\n")
 
-abbrev pub refused_or : Option (List ℕ) → List ℕ → DueReply
-refused_or (Some text) bytes = record { status = 2; text = text }
-refused_or None bytes = script_reply (parse bytes)
+-- how many nodes the cache keeps at most
+abbrev pub capacity_of : Wish → ℕ
+capacity_of (wishes.Threads capacity written) = capacity
+capacity_of (wishes.Given order capacity written) = capacity
+capacity_of (wishes.Gen n capacity) = capacity
+capacity_of wishes.Refused = 4096
+
+-- the order that is given
+abbrev pub order_of : Wish → Option (List ℕ)
+order_of (wishes.Given order capacity written) = Some order
+order_of _ = None
+
+abbrev pub refused_or : Option (List ℕ) → DueReply → DueReply
+refused_or (Some text) reply = record { status = 2; text = text }
+refused_or None reply = reply
+
+abbrev pub wished : Wish → List ℕ → DueReply
+wished wish bytes = refused_or (refusal_of wish) (script_reply (capacity_of wish) (order_of wish) (parse bytes))
 
 abbrev pub due_reply : List (List ℕ) → List ℕ → DueReply
-due_reply words bytes = refused_or (refusal_of (wish_of words)) bytes
+due_reply words bytes = wished (wish_of words) bytes
 
 -- a status and a text are the ones that are due
 abbrev pub IsReply : ℕ → List ℕ → DueReply → Type 0

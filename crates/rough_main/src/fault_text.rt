@@ -1,6 +1,6 @@
-//! The text of a refusal.
+//! The texts of refusals.
 ghost use Rattle.std.specs.Prelude.{◌≡◌, IfOk};
-ghost use Rattle.rough_main.specs.Due.{reason_text, line_text as due_line};
+ghost use Rattle.rough_main.specs.Due.{reason_text, line_text as due_line, place_text as due_place};
 
 use script_reader::Reason;
 use std::alloc::Global;
@@ -38,4 +38,11 @@ pub fn line_text(alloc: Global, line: u64, reason: Reason) -> Result<Vec<u8>, Me
 {
     let name = reason_name(reason);
     Ok(format!(in alloc; "fault line {line} {name}\n")?.into_bytes())
+}
+
+/// Names the place at which an order is illegal.
+pub fn place_text(alloc: Global, place: u64) -> Result<Vec<u8>, Memory>
+    ensures { IfOk result (λ text. text.items ≡ due_place place) }
+{
+    Ok(format!(in alloc; "fault order place {place}\n")?.into_bytes())
 }

@@ -4,7 +4,7 @@ use std::alloc::Global;
 use std::test::Fail;
 
 /// Scripts with their answers.
-const ANSWERED: [(&str, &str); 12] = [
+const ANSWERED: [(&str, &str); 16] = [
     // one row
     (
         "shape 2 2\n\
@@ -14,9 +14,10 @@ sig 0 1 0\n",
         "shape 2 2\n\
 session 1\n\
 1 done 1\n\
-2 sig version 1\n\
+2 sig version 1 hits 0 misses 1 exps 1\n\
 level 1 over 1 (1)=2 (2)=3\n\
 level 2 over 2 (1,1)=4 (1,2)=6 (2,1)=6 (2,2)=9\n\
+order 1,1,1\n\
 versions 1\n",
     ),
     // two rows in the order of time
@@ -30,9 +31,10 @@ sig 0 1 0\n",
 session 1\n\
 1 done 1\n\
 2 done 2\n\
-3 sig version 2\n\
+3 sig version 2 hits 0 misses 1 exps 2\n\
 level 1 over 1 (1)=1 (2)=1\n\
 level 2 over 2 (1,1)=1 (1,2)=2 (2,2)=1\n\
+order 1,1,1,1\n\
 versions 2\n",
     ),
     // an empty interval
@@ -44,9 +46,10 @@ sig 1 1 0\n",
         "shape 2 2\n\
 session 1\n\
 1 done 1\n\
-2 sig version 1\n\
+2 sig version 1 hits 0 misses 0 exps 0\n\
 level 1 over 1\n\
 level 2 over 2\n\
+order 1,1\n\
 versions 1\n",
     ),
     // ends rounded down
@@ -59,10 +62,11 @@ sig 1/4 1 0\n",
         "shape 1 1\n\
 session 1\n\
 1 done 1\n\
-2 sig version 1\n\
+2 sig version 1 hits 0 misses 0 exps 0\n\
 level 1 over 1\n\
-3 sig version 1\n\
+3 sig version 1 hits 0 misses 1 exps 1\n\
 level 1 over 1 (1)=5\n\
+order 1,1,1,1\n\
 versions 1\n",
     ),
     // the greatest weight that fits
@@ -74,7 +78,7 @@ sig 0 1 0\n",
         "shape 1 8\n\
 session 1\n\
 1 done 1\n\
-2 sig version 1\n\
+2 sig version 1 hits 0 misses 1 exps 1\n\
 level 1 over 1 (1)=60096\n\
 level 2 over 2 (1,1)=3611529216\n\
 level 3 over 6 (1,1,1)=217038459764736\n\
@@ -83,6 +87,7 @@ level 5 over 120 (1,1,1,1,1)=783840738435984550526976\n\
 level 6 over 720 (1,1,1,1,1,1)=47105693017048927548469149696\n\
 level 7 over 5040 (1,1,1,1,1,1,1)=2830863727552572349952802020130816\n\
 level 8 over 40320 (1,1,1,1,1,1,1,1)=170123586570999387942763590201781518336\n\
+order 1,1,1\n\
 versions 1\n",
     ),
     // the least weight that does not
@@ -95,6 +100,7 @@ sig 0 1 0\n",
 session 1\n\
 1 done 1\n\
 2 overflow 60097\n\
+order 1,1\n\
 versions 1\n",
     ),
     // weights that fit apart and not together
@@ -110,7 +116,7 @@ sig 0 2 0\n",
 session 1\n\
 1 done 1\n\
 2 done 2\n\
-3 sig version 2\n\
+3 sig version 2 hits 0 misses 1 exps 1\n\
 level 1 over 1 (1)=60096\n\
 level 2 over 2 (1,1)=3611529216\n\
 level 3 over 6 (1,1,1)=217038459764736\n\
@@ -119,7 +125,7 @@ level 5 over 120 (1,1,1,1,1)=783840738435984550526976\n\
 level 6 over 720 (1,1,1,1,1,1)=47105693017048927548469149696\n\
 level 7 over 5040 (1,1,1,1,1,1,1)=2830863727552572349952802020130816\n\
 level 8 over 40320 (1,1,1,1,1,1,1,1)=170123586570999387942763590201781518336\n\
-4 sig version 2\n\
+4 sig version 2 hits 0 misses 1 exps 1\n\
 level 1 over 1 (1)=1\n\
 level 2 over 2 (1,1)=1\n\
 level 3 over 6 (1,1,1)=1\n\
@@ -129,6 +135,7 @@ level 6 over 720 (1,1,1,1,1,1)=1\n\
 level 7 over 5040 (1,1,1,1,1,1,1)=1\n\
 level 8 over 40320 (1,1,1,1,1,1,1,1)=1\n\
 5 overflow 60097\n\
+order 1,1,1,1,1,1,1\n\
 versions 2\n",
     ),
     // a name that is live, and one that isn't
@@ -145,6 +152,7 @@ session 1\n\
 2 name-taken 1\n\
 3 no-row 1\n\
 4 no-row 1\n\
+order 1,1,1,1\n\
 versions 1\n",
     ),
     // corrections, and the versions before them
@@ -162,12 +170,13 @@ session 1\n\
 1 done 1\n\
 2 done 2\n\
 3 done 3\n\
-4 sig version 1\n\
+4 sig version 1 hits 0 misses 1 exps 1\n\
 level 1 over 1 (1)=2 (2)=3\n\
-5 sig version 2\n\
+5 sig version 2 hits 0 misses 1 exps 1\n\
 level 1 over 1\n\
-6 sig version 3\n\
+6 sig version 3 hits 0 misses 1 exps 1\n\
 level 1 over 1 (1)=2 (2)=3\n\
+order 1,1,1,1,1,1,1,1,1\n\
 versions 3\n",
     ),
     // a row that was removed and appended again comes last at its tick
@@ -186,12 +195,13 @@ session 1\n\
 2 done 2\n\
 3 done 3\n\
 4 done 4\n\
-5 sig version 4\n\
+5 sig version 4 hits 0 misses 1 exps 2\n\
 level 1 over 1 (1)=1 (2)=1\n\
 level 2 over 2 (1,1)=1 (2,1)=2 (2,2)=1\n\
-6 sig version 2\n\
+6 sig version 2 hits 0 misses 1 exps 2\n\
 level 1 over 1 (1)=1 (2)=1\n\
 level 2 over 2 (1,1)=1 (1,2)=2 (2,2)=1\n\
+order 1,1,1,1,1,1,1,1\n\
 versions 4\n",
     ),
     // versions that are and aren't there; a version that isn't comes before an overflow
@@ -208,10 +218,11 @@ session 1\n\
 1 done 1\n\
 2 done 2\n\
 3 no-version 2\n\
-4 sig version 0\n\
+4 sig version 0 hits 0 misses 0 exps 0\n\
 level 1 over 1\n\
-5 sig version 1\n\
+5 sig version 1 hits 0 misses 1 exps 1\n\
 level 1 over 1 (1)=5\n\
+order 1,1,1,1,1,1\n\
 versions 2\n",
     ),
     (
@@ -227,6 +238,108 @@ session 1\n\
 2 done 2\n\
 3 no-version 2\n\
 4 overflow 60097\n\
+order 1,1,1,1\n\
+versions 2\n",
+    ),
+    // the second query finds what the first one kept
+    (
+        "shape 2 2\n\
+session 1\n\
+append a 0 2 3\n\
+sig 0 1 0\n\
+sig 0 1 0\n",
+        "shape 2 2\n\
+session 1\n\
+1 done 1\n\
+2 sig version 1 hits 0 misses 1 exps 1\n\
+level 1 over 1 (1)=2 (2)=3\n\
+level 2 over 2 (1,1)=4 (1,2)=6 (2,1)=6 (2,2)=9\n\
+3 sig version 1 hits 1 misses 0 exps 0\n\
+level 1 over 1 (1)=2 (2)=3\n\
+level 2 over 2 (1,1)=4 (1,2)=6 (2,1)=6 (2,2)=9\n\
+order 1,1,1,1\n\
+versions 1\n",
+    ),
+    // after a correction in one half of the interval the other half is found
+    (
+        "shape 1 1\n\
+session 1\n\
+append r0 0/16 1\n\
+append r1 1/16 1\n\
+append r2 2/16 1\n\
+append r3 3/16 1\n\
+append r4 4/16 1\n\
+append r5 8/16 1\n\
+append r6 9/16 1\n\
+append r7 10/16 1\n\
+append r8 11/16 1\n\
+sig 0 1 0\n\
+correct r5 2\n\
+sig 0 1 0\n",
+        "shape 1 1\n\
+session 1\n\
+1 done 1\n\
+2 done 2\n\
+3 done 3\n\
+4 done 4\n\
+5 done 5\n\
+6 done 6\n\
+7 done 7\n\
+8 done 8\n\
+9 done 9\n\
+10 sig version 9 hits 0 misses 3 exps 9\n\
+level 1 over 1 (1)=9\n\
+11 done 10\n\
+12 sig version 10 hits 1 misses 2 exps 4\n\
+level 1 over 1 (1)=10\n\
+order 1,1,1,1,1,1,1,1,1,1,1,1,1,1\n\
+versions 10\n",
+    ),
+    // two nodes are kept
+    (
+        "shape 1 1\n\
+session 1\n\
+append a 0 1\n\
+append b 1 2\n\
+sig 0 1 0\n\
+sig 1 2 0\n\
+sig 0 1 0\n",
+        "shape 1 1\n\
+session 1\n\
+1 done 1\n\
+2 done 2\n\
+3 sig version 2 hits 0 misses 1 exps 1\n\
+level 1 over 1 (1)=1\n\
+4 sig version 2 hits 0 misses 1 exps 1\n\
+level 1 over 1 (1)=2\n\
+5 sig version 2 hits 1 misses 0 exps 0\n\
+level 1 over 1 (1)=1\n\
+order 1,1,1,1,1,1,1\n\
+versions 2\n",
+    ),
+    // each version between two edits has its own signature
+    (
+        "shape 1 1\n\
+session 1\n\
+append a 0 5\n\
+sig 0 1 0\n\
+correct a 6\n\
+sig 0 1 0 at 1\n\
+sig 0 1 0 at 2\n\
+sig 0 1 0\n",
+        "shape 1 1\n\
+session 1\n\
+1 done 1\n\
+2 sig version 1 hits 0 misses 1 exps 1\n\
+level 1 over 1 (1)=5\n\
+3 done 2\n\
+4 sig version 1 hits 1 misses 0 exps 0\n\
+level 1 over 1 (1)=5\n\
+5 sig version 2 hits 0 misses 1 exps 1\n\
+level 1 over 1 (1)=6\n\
+6 sig version 2 hits 1 misses 0 exps 0\n\
+level 1 over 1 (1)=6\n\
+order 1,1,1,1,1,1,1,1\n\
 versions 2\n",
     ),
 ];
@@ -245,17 +358,18 @@ log 0 1 0 at 1\n",
 session 1\n\
 1 done 1\n\
 2 done 2\n\
-3 log version 2\n\
+3 log version 2 hits 0 misses 1 exps 2\n\
 level 1 over 1 1=1 2=1\n\
 level 2 over 8 [1,2]=4\n\
 level 3 over 108 [1,[1,2]]=9 [2,[1,2]]=-9\n\
 level 4 over 1152 [2,[1,[1,2]]]=-48\n\
 4 no-version 2\n\
-5 log version 1\n\
+5 log version 1 hits 0 misses 1 exps 1\n\
 level 1 over 1 1=1\n\
 level 2 over 8\n\
 level 3 over 108\n\
 level 4 over 1152\n\
+order 1,1,1,1,1,1,1\n\
 versions 2\n",
     ),
     // the greatest weight that fits
@@ -267,7 +381,7 @@ log 0 1 0\n",
         "shape 1 8\n\
 session 1\n\
 1 done 1\n\
-2 log version 1\n\
+2 log version 1 hits 0 misses 1 exps 1\n\
 level 1 over 1 1=6184\n\
 level 2 over 8\n\
 level 3 over 108\n\
@@ -276,6 +390,7 @@ level 5 over 36000\n\
 level 6 over 259200\n\
 level 7 over 14817600\n\
 level 8 over 270950400\n\
+order 1,1,1\n\
 versions 1\n",
     ),
     // the least weight that does not
@@ -288,14 +403,21 @@ log 0 1 0\n",
 session 1\n\
 1 done 1\n\
 2 overflow 6185\n\
+order 1,1\n\
 versions 1\n",
     ),
 ];
 
 const SCRIPT: &str = "shape 2 2\nsession 1\nappend a 0 2 3\nsig 0 1 0\n";
 
-const ANSWERS: &str =
-    "shape 2 2\nsession 1\n1 done 1\n2 sig version 1\nlevel 1 over 1 (1)=2 (2)=3\nlevel 2 over 2 (1,1)=4 (1,2)=6 (2,1)=6 (2,2)=9\nversions 1\n";
+const ANSWERS: &str = "shape 2 2\n\
+session 1\n\
+1 done 1\n\
+2 sig version 1 hits 0 misses 1 exps 1\n\
+level 1 over 1 (1)=2 (2)=3\n\
+level 2 over 2 (1,1)=4 (1,2)=6 (2,1)=6 (2,2)=9\n\
+order 1,1,1\n\
+versions 1\n";
 
 /// How a run over memory ended.
 #[derive(Drop)]
@@ -395,8 +517,8 @@ fn each_read_may_fail(rt: HostRuntime) -> Result<(), Fail> {
 
 #[test]
 fn each_write_may_fail(rt: HostRuntime) -> Result<(), Fail> {
-    // Nineteen writes of seven bytes.
-    for write in 1..=19u64 {
+    // Twenty-four writes of seven bytes.
+    for write in 1..=24u64 {
         let run = run_over_memory(rt.alloc(), &[], SCRIPT, &[], &[write])?;
         assert_eq!(rt; run.status, 5, "at write {write}");
         assert!(rt; ANSWERS.starts_with(run.written.as_str()));
@@ -404,7 +526,7 @@ fn each_write_may_fail(rt: HostRuntime) -> Result<(), Fail> {
         assert_eq!(rt; run.faults, (0, 1));
     }
     assert_eq!(rt;
-        run_over_memory(rt.alloc(), &[], SCRIPT, &[], &[20])?.status,
+        run_over_memory(rt.alloc(), &[], SCRIPT, &[], &[25])?.status,
         0
     );
     Ok(())
@@ -421,7 +543,6 @@ fn words_are_answered_unread(rt: HostRuntime) -> Result<(), Fail> {
         (&["x"], "fault words\n"),
         (&["--json"], "fault later\n"),
         (&["--gen", "8"], "fault later\n"),
-        (&["--order", "1,1,1"], "fault later\n"),
     ] {
         // A read would fail.
         let run = run_over_memory(rt.alloc(), words, SCRIPT, &[1], &[])?;
@@ -431,5 +552,51 @@ fn words_are_answered_unread(rt: HostRuntime) -> Result<(), Fail> {
     let run = run_over_memory(rt.alloc(), &["--cache", "5"], SCRIPT, &[], &[])?;
     assert_eq!(rt; run.status, 0);
     assert_eq!(rt; run.written.as_str(), ANSWERS);
+    Ok(())
+}
+
+#[test]
+fn orders_are_legal_or_not(rt: HostRuntime) -> Result<(), Fail> {
+    // An edit, a look, and its settle.
+    for (order, status, text) in [
+        ("1,1,1", 0, ANSWERS),
+        ("1,1", 3, "fault order place 3\n"),
+        ("1,1,1,1", 3, "fault order place 4\n"),
+        ("1,2,1", 3, "fault order place 2\n"),
+        ("none", 3, "fault order place 1\n"),
+    ] {
+        let run = run_over_memory(rt.alloc(), &["--order", order], SCRIPT, &[], &[])?;
+        assert_eq!(rt; run.status, status, "in the order {order}");
+        assert_eq!(rt; run.written.as_str(), text);
+    }
+    Ok(())
+}
+
+#[test]
+fn cache_of_one_node(rt: HostRuntime) -> Result<(), Fail> {
+    let script = "shape 1 1\n\
+session 1\n\
+append a 0 1\n\
+append b 1 2\n\
+sig 0 1 0\n\
+sig 1 2 0\n\
+sig 0 1 0\n";
+    let run = run_over_memory(rt.alloc(), &["--cache", "1"], script, &[], &[])?;
+    assert_eq!(rt; run.status, 0);
+    assert_eq!(rt;
+        run.written.as_str(),
+        "shape 1 1\n\
+session 1\n\
+1 done 1\n\
+2 done 2\n\
+3 sig version 2 hits 0 misses 1 exps 1\n\
+level 1 over 1 (1)=1\n\
+4 sig version 2 hits 0 misses 1 exps 1\n\
+level 1 over 1 (1)=2\n\
+5 sig version 2 hits 0 misses 1 exps 1\n\
+level 1 over 1 (1)=1\n\
+order 1,1,1,1,1,1,1,1\n\
+versions 2\n"
+    );
     Ok(())
 }

@@ -1,15 +1,15 @@
 //! The top call.
-ghost use Rattle.std.specs.Prelude.{◌≡◌, ◌≢◌, ◌<◌, ◌≤◌, ◌+◌, ◌⊎◌, ◌↔◌, List, ℕ, Some, IsSome, Err, drop, map, length, string_bytes, IfOk, OnOk, OnErr, IsErrOf};
+ghost use Rattle.std.specs.Prelude.{◌≡◌, ◌≢◌, ◌<◌, ◌≤◌, ◌+◌, ◌⊎◌, ◌↔◌, List, ℕ, Some, None, IsSome, Err, drop, map, length, string_bytes, IfOk, OnOk, OnErr, IsErrOf};
 ghost use Rattle.std.specs.Io.KnownBytes.{Appends, IsAtEnd, Keeps};
 ghost use Rattle.rough_io.specs.Counts.{Rose};
 ghost use Rattle.rough_io.specs.Transfers.{AddsPrefix, TakesAtMost};
-ghost use Rattle.command_line.specs.Wishes.{wish_of};
+ghost use Rattle.command_line.specs.Wishes.{wish_of, HasCapacity};
 ghost use Rattle.script_reader.specs.Script.{most_bytes, parse};
 ghost use Rattle.session.specs.Logarithms.{LogarithmsExpand};
-ghost use Rattle.rough_main.specs.Due.{script_reply, due_reply, refusal_of, IsReply, IsAnswer};
+ghost use Rattle.rough_main.specs.Due.{script_reply, due_reply, refusal_of, capacity_of, order_of, IsReply, IsAnswer};
 
 use crate::reply::{Reply, refusal, reply_to_refused, reply_to_script};
-use command_line::read_words;
+use command_line::{Wish, read_words};
 use rough_io::{ReceiveFault, Sink, Source, receive, send};
 use std::alloc::Global;
 
@@ -26,8 +26,14 @@ const WRITE_FAILED: u8 = 5;
 const NO_MEMORY: u8 = 6;
 
 /// The reply that is due to the bytes of a source.
-fn reply_to_source<S: Source>(alloc: Global, source: &mut S) -> Result<Reply, ReceiveFault>
-    ensures reply { (bytes : List ℕ) → S.left source.old ≡ Some bytes → IfOk result (λ reply. IsReply reply.status reply.text.items (script_reply (parse bytes))) }
+fn reply_to_source<S: Source>(
+    alloc: Global,
+    wish: &Wish,
+    source: &mut S,
+) -> Result<Reply, ReceiveFault>
+    requires built { refusal_of wish.now ≡ None }
+    requires capacity { HasCapacity wish.now }
+    ensures reply { (bytes : List ℕ) → S.left source.old ≡ Some bytes → IfOk result (λ reply. IsReply reply.status reply.text.items (script_reply (capacity_of wish.now) (order_of wish.now) (parse bytes))) }
     ensures logarithms { (bytes : List ℕ) → S.left source.old ≡ Some bytes → OnOk result (LogarithmsExpand (parse bytes)) }
     ensures status { IfOk result (λ reply. (reply.status ≡ 0) ⊎ (reply.status ≡ 3)) }
     ensures whole { IfOk result (λ reply. reply.status ≡ 0 → IsAtEnd (S.left source.new)) }
@@ -38,7 +44,7 @@ fn reply_to_source<S: Source>(alloc: Global, source: &mut S) -> Result<Reply, Re
     ensures ok { OnOk result (S.faults source.new ≡ S.faults source.old) }
 {
     let bytes = receive(alloc, source, MOST_BYTES)?;
-    match reply_to_script(alloc, &bytes) {
+    match reply_to_script(alloc, wish, &bytes) {
         Ok(reply) => Ok(reply),
         Err(_memory) => Err(ReceiveFault::Memory),
     }
@@ -70,7 +76,7 @@ fn reply_to<S: Source>(
             Ok(reply) => Ok(reply),
             Err(_memory) => Err(ReceiveFault::Memory),
         },
-        None => reply_to_source(alloc, source),
+        None => reply_to_source(alloc, &wish, source),
     }
 }
 
@@ -94,7 +100,7 @@ fn write_reply<O: Sink>(sink: &mut O, reply: &Reply) -> u8
 /// |---|---|---|
 /// | 0 | the script was accepted | its answers |
 /// | 2 | exactly where the words are refused, or wish what isn't built yet | `fault words`, `fault later` |
-/// | 3 | exactly where the script is refused | `fault size`, `fault line n reason` |
+/// | 3 | exactly where the script is refused, or else the order that is given | `fault size`, `fault line n reason`, `fault order place p` |
 /// | 4 | only where the source's count of faults rose | nothing |
 /// | 5 | only where the sink's count of faults rose | a prefix of the text of status 0, 2 or 3 |
 /// | 6 | want of memory | nothing |
