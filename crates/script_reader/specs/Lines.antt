@@ -105,11 +105,6 @@ is_placed Shape before = is_none before.shape
 is_placed Session before = is_some before.shape
 is_placed _ before = nat_lt 0 before.sessions
 
--- further sessions are not built yet
-abbrev pub is_built : Keyword → Tally → Bool
-is_built Session before = before.sessions == 0
-is_built _ before = true
-
 -- four words, or six of which the fifth is `at`
 abbrev pub has_query_fields : List (List ℕ) → Bool
 has_query_fields words = length words == 4 || (length words == 6 && bytes_eq (field 4 words) (codes "at"))
@@ -202,7 +197,6 @@ value_tests Log before words = query_tests before words
 abbrev pub form_reason : Keyword → Tally → List (List ℕ) → Option Reason
 form_reason k before words =
     first_of (unless (is_placed k before) reasons.Place
-    ∷ unless (is_built k before) reasons.Later
     ∷ unless (has_fields k (named before.shape) words) reasons.Fields
     ∷ first_of (field_tests k words)
     ∷ first_of (value_tests k before words)

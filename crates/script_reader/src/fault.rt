@@ -7,8 +7,6 @@ pub enum Reason {
     Keyword,
     /// The first content line isn't `shape`, a later one is, or a command stands before the first session.
     Place,
-    /// The form isn't built yet.
-    Later,
     /// The number of words isn't that of the form.
     Fields,
     /// A field isn't a name.

@@ -207,16 +207,13 @@ fn read_session(tally: &Tally, words: &[&[u8]]) -> Result<(), LineFault>
     if tally.shape.is_none() {
         return Err(LineFault::Bad(Reason::Place));
     }
-    if tally.sessions != 0 {
-        return Err(LineFault::Bad(Reason::Later));
-    }
     if words.len() != 2 {
         return Err(LineFault::Bad(Reason::Fields));
     }
     let Some(number) = number_at(words, 1) else {
         return Err(LineFault::Bad(Reason::Number));
     };
-    if number != tally.sessions + 1 || number > MOST_SESSIONS {
+    if number.checked_sub(1) != Some(tally.sessions) || number > MOST_SESSIONS {
         return Err(LineFault::Bad(Reason::Session));
     }
     Ok(())

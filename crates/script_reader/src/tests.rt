@@ -63,7 +63,10 @@ fn first_lines(rt: HostRuntime) {
 fn commands(rt: HostRuntime) -> Result<(), Fail> {
     for (text, line, reason) in [
         ("appends a 0 2 3", 3, Reason::Keyword),
-        ("session", 3, Reason::Later),
+        ("session", 3, Reason::Fields),
+        ("session 1", 3, Reason::Session),
+        ("session 3", 3, Reason::Session),
+        ("session x", 3, Reason::Number),
         ("correct a 2", 3, Reason::Fields),
         ("correct 1 - -", 3, Reason::Name),
         ("correct a 2 -", 3, Reason::Number),
