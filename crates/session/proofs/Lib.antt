@@ -1,7 +1,10 @@
 mod AllowedLaws
 mod AskLaws
 mod BoundLaws
+mod EndLaws
 mod ExpansionLaws
+mod HoldLaws
+mod MomentLaws
 mod NextLaws
 mod OpeningLaws
 mod OrderLaws
@@ -11,5 +14,11 @@ mod PlaceLaws
 mod ReadyLaws
 mod RoundLaws
 mod RunLaws
+mod ServeLaws
+mod ServingLaws
 mod StepLaws
+mod TakenLaws
+mod ThreadLaws
+mod TogetherLaws
 mod TurnLaws
+mod VersionLaws

@@ -3,7 +3,7 @@ use Rattle.std.proofs.Common.{◌≡◌, ◌∙◌, ℕ, ◌-◌, ◌≤◌, ◌
 use Rattle.std.specs.Prelude.{All, nat_lt, map, unwrap_or}
 use Rattle.std.proofs.lemmas.Bool.{cases_Bool}
 use Rattle.std.proofs.lemmas.Bool.Decides.{nat_tests}
-use Rattle.std.proofs.lemmas.List.{append-nil, length-append, length-set, length-replicate, get_or-set_other}
+use Rattle.std.proofs.lemmas.List.{append-nil, append_assoc, length-append, length-set, length-replicate, get_or-set_other}
 use Rattle.std.proofs.lemmas.List.Elements.{All-replicate, All-set, All-weaker}
 use Rattle.definitions.specs.Signature.{weight}
 use Rattle.definitions.specs.Rows.{moves_of}
@@ -44,6 +44,16 @@ edits-later capacity state (Editing session e) = edit-later state.edits e
 edits-later capacity state (Looking session q) =
     subst (IsLater state.edits) (sym (unless-edits (look_refusal state.edits q) state (after_found session q state) refl)) (same-later state.edits)
 edits-later capacity state (Settling session) = same-later state.edits
+
+later-still : (first next last : List Accepted) → IsLater first next → IsLater next last → IsLater first last
+later-still first next last one two =
+    record { more = one.more ++ two.more; are = two.are ∙ ap (λ (edits : List Accepted). edits ++ two.more) one.are ∙ append_assoc first one.more two.more }
+
+pub played-later : (capacity : ℕ) (state : State) (requests : List Request) → IsLater state.edits (played capacity state requests).edits
+played-later capacity state [] = same-later state.edits
+played-later capacity state (request ∷ requests) =
+    let next : State = after capacity state request in
+    later-still state.edits next.edits (played capacity next requests).edits (edits-later capacity state request) (played-later capacity next requests)
 
 -- ---- the places
 unless-length : (refusal : Option LookReply) (old new : State) → length new.pending ≡ length old.pending → length (unless_refused refusal old new).pending ≡ length old.pending

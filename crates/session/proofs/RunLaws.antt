@@ -90,24 +90,24 @@ begun-after extent capacity state (Settling s) session left of within next =
     omega (arith, begun-settled extent session (pending_of session state.pending) left s next, ap begun none)
 
 -- ---- the commands that are left
-left-here : (session : ℕ) (request : Request) (left : List (List Command)) → session - 1 < length left
+pub left-here : (session : ℕ) (request : Request) (left : List (List Command)) → session - 1 < length left
     → of_session session (left_after session request left) ≡ drop (takes request) (of_session session left)
 left-here session (Editing s e) left within = get_or-set_same left (session - 1) (drop 1 (of_session session left)) [] within
 left-here session (Looking s q) left within = get_or-set_same left (session - 1) (drop 1 (of_session session left)) [] within
 left-here session (Settling s) left within = refl
 
-left-other : (session : ℕ) (request : Request) (left : List (List Command)) (other : ℕ) → other - 1 ≢ session - 1 → of_session other (left_after session request left) ≡ of_session other left
+pub left-other : (session : ℕ) (request : Request) (left : List (List Command)) (other : ℕ) → other - 1 ≢ session - 1 → of_session other (left_after session request left) ≡ of_session other left
 left-other session (Editing s e) left other not = get_or-set_other left (session - 1) (other - 1) (drop 1 (of_session session left)) [] not
 left-other session (Looking s q) left other not = get_or-set_other left (session - 1) (other - 1) (drop 1 (of_session session left)) [] not
 left-other session (Settling s) left other not = refl
 
-left-length : (session : ℕ) (request : Request) (left : List (List Command)) → length (left_after session request left) ≡ length left
+pub left-length : (session : ℕ) (request : Request) (left : List (List Command)) → length (left_after session request left) ≡ length left
 left-length session (Editing s e) left = length-set left (session - 1) (drop 1 (of_session session left))
 left-length session (Looking s q) left = length-set left (session - 1) (drop 1 (of_session session left))
 left-length session (Settling s) left = refl
 
 -- ---- answers
-shows-append : (extent : Extent) (answers more : List Answer) (dues last : List Due) → ShowsEach extent answers dues → ShowsEach extent more last → ShowsEach extent (answers ++ more) (dues ++ last)
+pub shows-append : (extent : Extent) (answers more : List Answer) (dues last : List Due) → ShowsEach extent answers dues → ShowsEach extent more last → ShowsEach extent (answers ++ more) (dues ++ last)
 shows-append extent [] more [] last each then = then
 shows-append extent [] more (due ∷ dues) last each then = absurd each
 shows-append extent (answer ∷ answers) more [] last each then = absurd each
@@ -123,7 +123,7 @@ count-other session history step other =
 
 -- ---- solutions
 -- later edits change no row of an earlier version
-settles-later : (extent : Extent) (old more : List Accepted) (look : PendingLook) (solved : List SolvedNode) → look.version ≤ length old
+pub settles-later : (extent : Extent) (old more : List Accepted) (look : PendingLook) (solved : List SolvedNode) → look.version ≤ length old
     → IsSettlement extent old look.version look.missed solved → IsSettlement extent (old ++ more) look.version look.missed solved
 settles-later extent old more look solved within is = record {
   nodes_are = is.nodes_are;

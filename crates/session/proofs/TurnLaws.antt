@@ -78,7 +78,7 @@ found-is p P (y ∷ xs) x all e = at (p y) refl e (found-is p P xs x (All-tail P
     at true t f later = let same : y ≡ x = cc in subst (λ (z : ℕ). (p z ≡ true) × P z) same (t, All-head P y xs all)
     at false t f later = later f
 
-numbers-within : (m n : ℕ) → n ≤ m → All (λ s. s ≤ m) (up_to n)
+pub numbers-within : (m n : ℕ) → n ≤ m → All (λ s. s ≤ m) (up_to n)
 numbers-within m zero h = All-nil (λ s. s ≤ m)
 numbers-within m (suc n) h = All-append (λ s. s ≤ m) (up_to n) (suc n ∷ []) (numbers-within m n (omega arith)) (All-cons (λ s. s ≤ m) (suc n) [] h (All-nil (λ s. s ≤ m)))
 

@@ -1,4 +1,11 @@
 pub mod Play
 pub mod Answers
 pub mod Logarithms
+pub mod Versions
 pub mod Runs
+pub mod Looks
+pub mod Moments
+pub mod Holds
+pub mod Turns
+pub mod Serving
+pub mod Threads

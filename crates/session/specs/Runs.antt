@@ -16,7 +16,7 @@ use Rattle.book.specs.Books.{BookValue, IsSession, count_of, state_of, log_of, w
 use Rattle.session.specs.declared.answer.Answer.{Answer}
 use Rattle.session.specs.declared.run.Run.{Run as TheRun}
 use Rattle.session.specs.Play.{Run, opening_run, run_in, stepped, next_request, of_session, answers_to}
-use Rattle.session.specs.Answers.{ShowsEach, HasMembers}
+use Rattle.session.specs.Answers.{ShowsEach, ShowsAll, HasMembers}
 
 -- the order of the steps that were taken
 abbrev pub order_of : BookValue → List ℕ
@@ -63,9 +63,13 @@ abbrev pub exps_unless : Option LookReply → ℕ → ℕ
 exps_unless None exps = exps
 exps_unless (Some reply) exps = 0
 
+-- the rows that a look exponentiates
+abbrev pub exps_for : State → Query → ℕ
+exps_for state q = exps_unless (look_refusal state.edits q) (sum_by exps_of (look_walk state q))
+
 -- one for each visited node, and one for each row that is exponentiated
 abbrev pub units_of : State → Option Request → ℕ
-units_of state (Some (Looking session q)) = look_visits state q + exps_unless (look_refusal state.edits q) (sum_by exps_of (look_walk state q))
+units_of state (Some (Looking session q)) = look_visits state q + exps_for state q
 units_of state _ = 0
 
 abbrev pub units_in : ℕ → Extent → List ℕ → Run → ℕ
@@ -111,3 +115,9 @@ pub record IsLastLook (history : List Step) : Type 0 where
   pub query : Query
   pub reply : LookReply
   pub last : history ≡ before ++ Looked session query reply ∷ []
+
+-- the steps of the book are those of the script's run in their order, and these answers are due in it
+pub record IsTold (script : ScriptValue) (book : BookValue) (transcripts : List (List Answer)) : Type 0 where
+  pub state : (run_of script book).state ≡ state_of book
+  pub shows : ShowsAll script.extent transcripts (run_of script book).transcripts
+  pub members : All (All (HasMembers script.extent)) transcripts

@@ -2,6 +2,7 @@
 ghost use Rattle.std.specs.Prelude.{◌≡◌, ℕ, List, None};
 ghost use Rattle.session.specs.Play.{illegal_place, round_order};
 ghost use Rattle.session.specs.Logarithms.{ExpandIn};
+ghost use Rattle.session.specs.Versions.{NeverFall};
 
 use script_reader::Script;
 
@@ -19,4 +20,13 @@ pub fn round_is_legal(script: &Script)
     ensures { (capacity : ℕ) → illegal_place capacity script.now (round_order capacity script.now) ≡ None }
 {
     let _shape = script.shape();
+}
+
+/// The versions of the answers never fall along an order, those of queries that name one left out. So the version of such an answer is no
+/// older than any that its session had seen.
+pub fn versions_never_fall(script: &Script)
+    ensures { (capacity : ℕ) → (order : List ℕ) → NeverFall capacity script.now order }
+{
+    let _shape = script.shape();
+    book::laws::versions_never_fall();
 }

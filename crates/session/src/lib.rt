@@ -2,13 +2,19 @@
 #![tactic(auto)]
 
 pub mod answer;
+pub mod held;
 pub mod laws;
+pub mod look;
 pub mod orders;
 mod query;
 pub mod run;
+pub mod serve;
+pub mod threads;
 mod value;
 
 pub use answer::{Answer, Outcome, Transcript};
 pub use book::LookReply;
 pub use orders::{ReplayFault, replay, replay_round};
+pub use solve::{Gate, Through};
+pub use threads::run_all;
 pub use versions::EditReply;

@@ -4,11 +4,12 @@ ghost use Rattle.std.specs.List.{find};
 ghost use Rattle.definitions.specs.Words.{up_to};
 ghost use Rattle.session.specs.Play.{has_next as has_request, due_outcome, illegal_place, round_order, opening_run, next_turn as due_turn, most_steps as most_due_steps};
 ghost use Rattle.session.specs.Answers.{IsOutcome, AllHaveMembers};
-ghost use Rattle.session.specs.Runs.{IsRun, order_of, run_of, units_in};
+ghost use Rattle.session.specs.Runs.{IsRun, IsTold, order_of, run_of, units_in};
 
-use crate::answer::Outcome;
+use crate::answer::{Outcome, Transcript};
 use crate::run::{Run, has_next, opening, step};
 use basis_cell::BasisCell;
+use book::Book;
 use script_reader::Script;
 use std::alloc::Global;
 use std::sync::ledger::Ledger;
@@ -34,21 +35,42 @@ impl From<Memory> for ReplayFault {
     }
 }
 
+/// What a run gives whose steps are in this book, and whose answers are these.
+pub fn outcome_of(
+    alloc: Global,
+    script: &Script,
+    book: &Book,
+    transcripts: Vec<Transcript>,
+) -> Result<Outcome, Memory>
+    requires { IsTold script.now book.now transcripts.items }
+    ensures outcome { IfOk result (λ outcome. IsOutcome script.now.extent outcome (due_outcome book.now.capacity script.now (order_of book.now))) }
+    ensures order { IfOk result (λ outcome. outcome.order.items ≡ order_of book.now) }
+    ensures members { IfOk result (AllHaveMembers script.now.extent) }
+{
+    let _shape = script.shape();
+    let mut order = Vec::new(alloc);
+    for taken in book.history() {
+        order.push(taken.session())?;
+    }
+    Ok(Outcome {
+        versions: book.version(),
+        transcripts,
+        order,
+    })
+}
+
 /// What a run gives after its last step.
-fn outcome_of(alloc: Global, script: &Script, run: Run) -> Result<Outcome, Memory>
+fn outcome_of_run(alloc: Global, script: &Script, run: Run) -> Result<Outcome, Memory>
     requires { IsRun script.now run }
     ensures outcome { IfOk result (λ outcome. IsOutcome script.now.extent outcome (due_outcome run.book.capacity script.now (order_of run.book))) }
     ensures members { IfOk result (AllHaveMembers script.now.extent) }
 {
-    let mut order = Vec::new(alloc);
-    for taken in run.book.history() {
-        order.push(taken.session())?;
-    }
-    Ok(Outcome {
-        versions: run.book.version(),
-        transcripts: run.transcripts,
-        order,
-    })
+    let Run {
+        book,
+        transcripts,
+        ..
+    } = run;
+    outcome_of(alloc, script, &book, transcripts)
 }
 
 /// The first session after the one and up to the other that has anything to do.
@@ -106,7 +128,7 @@ pub fn replay<L: Ledger>(
     if next_turn(&run, script, 0).is_some() {
         return Err(ReplayFault::Order(order.len() as u64 + 1));
     }
-    Ok(outcome_of(alloc, script, run)?)
+    Ok(outcome_of_run(alloc, script, run)?)
 }
 
 /// How many steps there are at most: each command is one, and each look may be followed by a settle.
@@ -144,5 +166,5 @@ pub fn replay_round<L: Ledger>(
         step(alloc, &cell, script, &mut run, session, steps)?;
         last = session;
     }
-    outcome_of(alloc, script, run)
+    outcome_of_run(alloc, script, run)
 }

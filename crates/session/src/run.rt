@@ -17,12 +17,12 @@ ghost use Rattle.session.specs.Answers.{Shows, HasMembers, IsAllowed};
 ghost use Rattle.session.specs.Runs.{IsRun, IsAfter, IsSolvedFor, HasPlaces, IsLastLook, IsPendingSolved, order_of, run_of, units_of};
 
 use crate::answer::{Answer, Transcript};
+use crate::look::{answer_look, look_at};
 use crate::query::query_for;
-use crate::value::answer_of;
 use basis_cell::BasisCell;
-use book::{Book, Look, LookReply, Step};
-use script_reader::{Ask, Command, Kind, Script};
-use solve::{Solved, Through, Work, solve};
+use book::Book;
+use script_reader::{Ask, Command, Script};
+use solve::{Solved, Through};
 use std::alloc::Global;
 use std::sync::ledger::Ledger;
 use versions::Edit;
@@ -108,41 +108,6 @@ fn edit_step(alloc: Global, run: &mut Run, session: u32, edit: &Edit) -> Result<
     Ok(())
 }
 
-/// The reply to the look that is the last step.
-fn last_reply(book: &Book) -> LookReply
-    requires { IsLastLook book.now.history }
-    ensures { (before : List TheStep) → (session : ℕ) → (q : TheQuery) → (reply : TheReply) → book.now.history ≡ before ++ Looked session q reply ∷ [] → result ≡ reply }
-{
-    match book.history().last() {
-        Some(Step::Looked(_, _, reply)) => *reply,
-        _ => unreachable!(),
-    }
-}
-
-/// The answer to a look that gave a work, and the work's solution.
-fn answer_work<L: Ledger>(
-    alloc: Global,
-    cell: &BasisCell,
-    shape: Shape,
-    session: u32,
-    kind: Kind,
-    reply: LookReply,
-    work: &Work,
-    steps: &mut Steps<L>,
-) -> Result<(Answer, Solved), Memory>
-    requires extent { work.now.extent ≡ shape }
-    requires allowed { (rows : List RowValue) × PlansStand work.now.plans (moves_of rows) × IsAllowed shape kind (weight (moves_of rows)) }
-    ensures shows { (rows : List RowValue) → PlansStand work.now.plans (moves_of rows) → IfOk result (λ r. Shows shape r.0 (valued shape kind reply rows)) }
-    ensures members { IfOk result (λ r. HasMembers shape r.0) }
-    ensures nodes { IfOk result (λ r. AreSolved shape (all_missed work.now.plans) r.1.nodes.items) }
-    ensures ticks { OnOk result (steps.new ≡ steps.old + sum_by exps_of work.now.plans) }
-    ensures at_most { (steps.old ≤ steps.new) × (steps.new ≤ steps.old + sum_by exps_of work.now.plans) }
-{
-    let solved = solve(alloc, work, session, &Through, steps)?;
-    let answer = answer_of(alloc, cell, shape, kind, reply, &solved.sig)?;
-    Ok((answer, solved))
-}
-
 /// Looks at a version. Gives the answer, and the solution where the look is pending.
 fn answer_ask<L: Ledger>(
     alloc: Global,
@@ -165,25 +130,8 @@ fn answer_ask<L: Ledger>(
     ensures at_most { (steps.old ≤ steps.new) × (steps.new ≤ steps.old + units_of (state_of book.old) (Some (Looking session (asked_query shape ask.now)))) }
 {
     let q = query_for(alloc, cell, shape, ask)?;
-    let refused = match book.look(alloc, session, q, steps)? {
-        Look::Work(work) => {
-            let reply = last_reply(book);
-            let (answer, solved) = answer_work(
-                alloc, cell, shape, session, ask.kind, reply, &work, steps,
-            )?;
-            let kept = if book.pending(session) {
-                Some(solved)
-            } else {
-                None
-            };
-            return Ok((answer, kept));
-        }
-        Look::NoVersion(current) => LookReply::NoVersion(current),
-        Look::Pair(a, b) => LookReply::Pair(a, b),
-        Look::Level(k) => LookReply::Level(k),
-        Look::Overflow(weight) => LookReply::Overflow(weight),
-    };
-    Ok((Answer::Refused(refused), None))
+    let looked = look_at(alloc, book, session, q, steps)?;
+    answer_look(alloc, cell, shape, session, ask, &looked, &Through, steps)
 }
 
 /// Looks at a version, and answers with the value of its rows.

@@ -52,8 +52,8 @@ returns-then-is_some-clause-illegal g c place e =
     replay-lacks c.args.capacity c.args.script.now c.loop-before.run.book order c.loop-before.before c.loop-before-test.false c.loop-before.auto.before-end turn c.loop-before.invariant.replayed
     ∙ ap (λ (n : ℕ). Some n) here
 
-pub outcome_of-requires : goal.outcome_of-requires
-outcome_of-requires g c = c.loop-before.invariant.is_run
+pub outcome_of_run-requires : goal.outcome_of_run-requires
+outcome_of_run-requires g c = c.loop-before.invariant.is_run
 
 pub returns-clause-legal : goal.returns-clause-legal
 returns-clause-legal g c =
@@ -66,7 +66,7 @@ returns-clause-outcome g c =
     let order = c.args.order.now in
     let book = c.loop-before.run.book in
     whole-outcome c.args.capacity c.args.script.now book order before.capacity_is (replayed-order c.args.capacity c.args.script.now book order c.loop-before.before c.loop-before-test.false before)
-    (λ due. IsOutcome c.args.script.now.extent c.in_ok-outcome_of.field-0 due) c.in_ok-outcome_of.ensures.outcome
+    (λ due. IsOutcome c.args.script.now.extent c.in_ok-outcome_of_run.field-0 due) c.in_ok-outcome_of_run.ensures.outcome
 
 pub returns-clause-ticks : goal.returns-clause-ticks
 returns-clause-ticks g c =

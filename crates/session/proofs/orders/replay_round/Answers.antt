@@ -60,9 +60,9 @@ returns g c =
       | then-loop-step-test+in_default w ↦ round-stops c.args.capacity script book c.loop-step._step c.loop-step.last (sym w.next_turn.ensures ∙ w.in_default.is) round
     ]
     in
-    let outcome = c.outcome_of.ensures in
+    let outcome = c.outcome_of_run.ensures in
     record {
-      outcome = whole-outcome c.args.capacity script book due round.capacity_is taken (λ due. IfOk c.outcome_of.result (λ outcome. IsOutcome script.extent outcome due)) outcome.outcome;
+      outcome = whole-outcome c.args.capacity script book due round.capacity_is taken (λ due. IfOk c.outcome_of_run.result (λ outcome. IsOutcome script.extent outcome due)) outcome.outcome;
       members = outcome.members;
-      ticks = on_ok c.outcome_of.result (c.loop-step.invariant.ticks ∙ ap (λ (n : ℕ). c.args.steps.now + n) (all-units c.args.capacity script book due round.capacity_is taken));
+      ticks = on_ok c.outcome_of_run.result (c.loop-step.invariant.ticks ∙ ap (λ (n : ℕ). c.args.steps.now + n) (all-units c.args.capacity script book due round.capacity_is taken));
     }

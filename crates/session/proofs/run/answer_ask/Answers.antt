@@ -1,46 +1,68 @@
-use Rattle.std.proofs.Common.{◌≡◌, sym, ap, subst}
-use Rattle.book.specs.Books.{state_of}
-use Rattle.session.proofs.AskLaws.{IsAsked, asked-work, asked-shows, asked-solved, asked-ticks, asked-within, units-within}
+use Rattle.std.proofs.Common.{◌≡◌, ◌∙◌, ◌+◌, ◌≤◌, ℕ, Option, IfOk, sym, ap, subst, arith}
+use Rattle.std.proofs.lemmas.Result.{on_ok_weaker}
+use Rattle.book.specs.declared.query.Query.{Query}
+use Rattle.book.specs.Play.{Looking, PendingLook, pending_of}
+use Rattle.book.specs.Looks.{look_visits}
+use Rattle.book.specs.Books.{BookValue, state_of, log_of, with_request}
+use Rattle.solve.specs.declared.solution.Solved.{Solved}
+use Rattle.session.specs.declared.answer.Answer.{Answer}
+use Rattle.session.specs.Play.{query_for}
+use Rattle.session.specs.Looks.{IsLooked, IsLookedFor}
+use Rattle.session.specs.Runs.{IsSolvedFor, exps_for}
 use Rattle.session.proofs.run.answer_ask.Given as given
 use Rattle.session.proofs.run.answer_ask.Goals as goal
-use Rattle.session.proofs.run.answer_ask.Goals.{In-Work, then-pending, else-pending}
+use Rattle.session.proofs.run.answer_ask.Goals.{In_ok-looked}
 
-pub returns-in_err-work-clause-at_most : goal.returns-in_err-work-clause-at_most
-returns-in_err-work-clause-at_most g c =
-    units-within c.args.shape (state_of c.args.book.now) c.args.session c.args.ask.now c.in_ok-q.q c.args.steps.now c.look.new.steps c.in_ok-q.ensures.value c.in_err-work.ensures.at_most
+-- what was looked at, as the command asks for it
+asked : (g : given.Over) (c : In_ok-looked g) → IsLookedFor c.args.shape c.args.session c.args.ask.now c.args.book.now c.in_ok-looked.looked
+asked g c = record {
+  extent_is = c.requires.shape;
+  ready = c.requires.ready;
+  free = c.requires.free;
+  looked_is = subst (λ (q : Query). IsLooked c.args.session q c.args.book.now c.in_ok-looked.looked) c.in_ok-q.ensures.value c.in_ok-looked.ensures.looked;
+}
 
--- ---- a look that gave a work
-asked : (g : given.Over) (c : In-Work g)
-    → IsAsked c.args.shape c.args.session c.args.ask.now c.args.book.now c.look.new.self c.in-Work.work c.args.steps.now c.look.new.steps
-asked g c =
-    asked-work c.args.shape c.args.session c.args.ask.now c.in_ok-q.q c.args.book.now c.look.new.self c.in_ok-work.field-0 c.in-Work.work c.args.steps.now c.look.new.steps
-    c.in_ok-q.ensures.value c.requires.shape c.in_ok-work.ensures.ok c.in_ok-work.ensures.look c.in-Work.is c.in_ok-work.ensures.ticks
+-- the book after the look
+book-is : (g : given.Over) (c : In_ok-looked g) → c.look_at.new.book ≡ with_request (Looking c.args.session (query_for c.args.shape c.args.ask.now)) c.args.book.now
+book-is g c = c.in_ok-looked.ensures.ok ∙ ap (λ (q : Query). with_request (Looking c.args.session q) c.args.book.now) c.in_ok-q.ensures.value
 
-pub returns-in_err-answer-in-Work-clause-at_most : goal.returns-in_err-answer-in-Work-clause-at_most
-returns-in_err-answer-in-Work-clause-at_most g c =
-    asked-within c.args.shape c.args.session c.args.ask.now c.args.book.now c.look.new.self c.in-Work.work c.args.steps.now c.look.new.steps
-    (asked g (goal.at.returns-in_err-answer-in-Work-clause-at_most g c).In-Work) c.answer_work.new.steps c.in_err-answer-in-Work.ensures.at_most
+pub returns-in_err-looked-clause-at_most : goal.returns-in_err-looked-clause-at_most
+returns-in_err-looked-clause-at_most g c =
+    let most = c.in_err-looked.ensures.at_most in
+    let asked_most : c.look_at.new.steps ≤ c.args.steps.now + look_visits (state_of c.args.book.now) (query_for c.args.shape c.args.ask.now) =
+    subst (λ (q : Query). c.look_at.new.steps ≤ c.args.steps.now + look_visits (state_of c.args.book.now) q) c.in_ok-q.ensures.value most.1 in
+    (most.0, omega (arith, asked_most))
 
-pub returns-in-Work-clause-book : goal.returns-in-Work-clause-book
-returns-in-Work-clause-book g c = (asked g (goal.at.returns-in-Work-clause-book g c).In-Work).book
+pub answer_look-requires-clause-looked : goal.answer_look-requires-clause-looked
+answer_look-requires-clause-looked g c κs within = (c.args.book.now, asked g (goal.at.answer_look-requires-clause-looked g c).In_ok-looked)
 
-pub returns-in-Work-clause-shows : goal.returns-in-Work-clause-shows
-returns-in-Work-clause-shows g c =
-    asked-shows c.args.shape c.args.session c.args.ask.now c.args.book.now c.look.new.self c.in-Work.work c.args.steps.now c.look.new.steps
-    (asked g (goal.at.returns-in-Work-clause-shows g c).In-Work) c.last_reply-reply.result c.in_ok-answer-in-Work.answer c.last_reply-reply.ensures c.in_ok-answer-in-Work.ensures.shows
+pub returns-clause-book : goal.returns-clause-book
+returns-clause-book g c =
+    let at = (goal.at.returns-clause-book g c).In_ok-looked in
+    on_ok_weaker c.answer_look.result (λ (_ : _). book-is g at) (c.answer_look.ensures.ticks c.args.book.now (asked g at))
 
-pub returns-in-Work-clause-solved : goal.returns-in-Work-clause-solved
-returns-in-Work-clause-solved g c =
-    asked-solved c.args.shape c.args.session c.args.ask.now c.args.book.now c.look.new.self c.in-Work.work c.args.steps.now c.look.new.steps
-    (asked g (goal.at.returns-in-Work-clause-solved g c).In-Work) c.requires.ready c.in_ok-answer-in-Work.solved c.if-pending.kept c.in_ok-answer-in-Work.ensures.nodes
-    (λ some. elim c.if-pending.branch [ then-pending w ↦ w.kept-is | else-pending w ↦ absurd (cc (some, w.if-pending.false, c.pending.ensures)) ])
+pub returns-clause-shows : goal.returns-clause-shows
+returns-clause-shows g c = c.answer_look.ensures.shows c.args.book.now (asked g (goal.at.returns-clause-shows g c).In_ok-looked)
 
-pub returns-in-Work-clause-ticks : goal.returns-in-Work-clause-ticks
-returns-in-Work-clause-ticks g c =
-    asked-ticks c.args.shape c.args.session c.args.ask.now c.args.book.now c.look.new.self c.in-Work.work c.args.steps.now c.look.new.steps
-    (asked g (goal.at.returns-in-Work-clause-ticks g c).In-Work) c.answer_work.new.steps c.in_ok-answer-in-Work.ensures.ticks
+pub returns-clause-solved : goal.returns-clause-solved
+returns-clause-solved g c =
+    let at = (goal.at.returns-clause-solved g c).In_ok-looked in
+    subst (λ (b : BookValue). IfOk c.answer_look.result (λ (r : Answer × Option Solved). IsSolvedFor (log_of b) (pending_of c.args.session (state_of b).pending) r.1)) (sym (book-is g at))
+    (c.answer_look.ensures.solved c.args.book.now (asked g at))
 
-pub returns-in-Work-clause-at_most : goal.returns-in-Work-clause-at_most
-returns-in-Work-clause-at_most g c =
-    asked-within c.args.shape c.args.session c.args.ask.now c.args.book.now c.look.new.self c.in-Work.work c.args.steps.now c.look.new.steps
-    (asked g (goal.at.returns-in-Work-clause-at_most g c).In-Work) c.answer_work.new.steps c.in_ok-answer-in-Work.ensures.at_most
+-- the units of the visits, as the command asks for them
+visits-are : (g : given.Over) (c : In_ok-looked g) → c.look_at.new.steps ≡ c.args.steps.now + look_visits (state_of c.args.book.now) (query_for c.args.shape c.args.ask.now)
+visits-are g c = c.in_ok-looked.ensures.ticks ∙ ap (λ (q : Query). c.args.steps.now + look_visits (state_of c.args.book.now) q) c.in_ok-q.ensures.value
+
+pub returns-clause-ticks : goal.returns-clause-ticks
+returns-clause-ticks g c =
+    let at = (goal.at.returns-clause-ticks g c).In_ok-looked in
+    on_ok_weaker c.answer_look.result
+    (λ (ticks : c.answer_look.new.steps ≡ c.look_at.new.steps + exps_for (state_of c.args.book.now) (query_for c.args.shape c.args.ask.now)). ticks ∙ omega (arith, visits-are g at))
+    (c.answer_look.ensures.ticks c.args.book.now (asked g at))
+
+pub returns-clause-at_most : goal.returns-clause-at_most
+returns-clause-at_most g c =
+    let at = (goal.at.returns-clause-at_most g c).In_ok-looked in
+    let most = c.answer_look.ensures.at_most c.args.book.now (asked g at) in
+    (omega (arith, most.0, visits-are g at), omega (arith, most.1, visits-are g at))

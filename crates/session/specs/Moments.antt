@@ -1,0 +1,45 @@
+-- What one session does, told from the steps of all.
+use Rattle.std.specs.Prelude.{◌≡◌, ℕ, nat_eq, Bool, if◌then◌else◌, List, [], ◌∷◌, ◌++◌, map, drop, flat_map, sum_by, Option, Some, None}
+use Rattle.definitions.specs.Words.{Extent}
+use Rattle.script_reader.specs.declared.command.Command.{Command}
+use Rattle.book.specs.Play.{State, Request, opening, after, pending_of, request_of}
+use Rattle.book.specs.Seen.{asker}
+use Rattle.book.specs.Books.{BookValue}
+use Rattle.session.specs.Play.{Due, next_of, answers_to}
+use Rattle.session.specs.Runs.{units_of, takes}
+
+-- a request, and the state that it meets
+pub record Moment : Type 0 where
+  pub state : State
+  pub request : Request
+
+abbrev pub own_moment : Bool → Moment → List Moment
+own_moment mine moment = if mine then moment ∷ [] else []
+
+-- a session's requests among those of all, which begin in this state
+abbrev pub moments : ℕ → ℕ → State → List Request → List Moment
+moments capacity session state [] = []
+moments capacity session state (request ∷ requests) =
+    own_moment (nat_eq session (asker request)) (record { state = state; request = request }) ++ moments capacity session (after capacity state request) requests
+
+-- a session's requests in a book
+abbrev pub moments_of : BookValue → ℕ → List Moment
+moments_of book session = moments book.capacity session (opening book.sessions) (map request_of book.history)
+
+-- each request is the session's next one, where these commands are left at first
+abbrev pub AreNext : Extent → ℕ → List Command → List Moment → Type 0
+AreNext extent session left [] = Unit {0}
+AreNext extent session left (moment ∷ moments) =
+    (next_of extent session (pending_of session moment.state.pending) left ≡ Some moment.request) × AreNext extent session (drop (takes moment.request) left) moments
+
+-- how many commands they take
+abbrev pub taken_by : List Moment → ℕ
+taken_by moments = sum_by (λ moment. takes moment.request) moments
+
+-- the answers that are due to them
+abbrev pub dues_of : Extent → List Moment → List Due
+dues_of extent moments = flat_map (λ moment. answers_to extent moment.state moment.request) moments
+
+-- one unit for each node that they visit, and for each row that is exponentiated
+abbrev pub units_by : List Moment → ℕ
+units_by moments = sum_by (λ moment. units_of moment.state (Some moment.request)) moments

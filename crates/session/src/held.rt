@@ -1,0 +1,156 @@
+//! The book behind a turnstile, and what a session does in one hold of the turn.
+ghost use Rattle.std.specs.Prelude.{◌≡◌, ◌+◌, ◌<◌, ◌^◌, true, false, ℕ, List, None, length, IfOk, OnOk, OnErr};
+ghost use Rattle.turnstile.specs.Passes.{view, IsPassOf};
+ghost use Rattle.versions.specs.Versions.{IsEdit, edit_reply};
+ghost use Rattle.book.specs.declared.step.Step.{Step as TheStep};
+ghost use Rattle.book.specs.Play.{Editing, Looking, Settling};
+ghost use Rattle.book.specs.Looks.{IsQuery, AllowsSignatures, look_visits};
+ghost use Rattle.book.specs.Books.{IsSettledBy, state_of, log_of};
+ghost use Rattle.session.specs.Holds.{seen_book, book_of, pending_in, CanStep, IsTaken, IsStill, Adds};
+ghost use Rattle.session.specs.Looks.{IsLooked};
+ghost use Rattle.session.specs.Turns.{IsIdle};
+
+use crate::look::{Looked, look_at};
+use book::{Book, EditReply, Query, Step};
+use solve::Solved;
+use std::alloc::Global;
+use std::sync::Wait;
+use std::sync::ledger::Ledger;
+use turnstile::{Kept, Pass, Turnstile};
+use versions::Edit;
+use words::{Memory, Steps};
+
+/// A book that sessions hold one after another. An entry is a step, its label the session.
+#[derive(Drop)]
+pub struct Held {
+    pub(crate) book: Book,
+    pub ghost few: { length book.history < 2 ^ 62 },
+}
+
+impl Kept for Held {
+    ghost use Rattle.book.specs.Play.{session_of};
+    ghost use Rattle.session.specs.Holds.{frame_of};
+
+    type Entry = Step;
+
+    ghost entries = { λ held. held.book.history };
+
+    ghost label = { session_of };
+
+    ghost frame = { λ held. frame_of held.book };
+
+    ghost few = { λ held. held.few };
+}
+
+impl Held {
+    /// The book, to be handed round.
+    pub fn of(book: Book) -> Held
+        ensures { result.book ≡ book }
+    {
+        Held { book }
+    }
+}
+
+/// Waits for the turn and takes the book, unless it is spent.
+fn take<R: Wait>(rt: &R, turns: &Turnstile<Held>, pass: &mut Pass<Held>) -> Result<Book, Memory>
+    requires idle { IsIdle turns.now pass.old }
+    requires steps { CanStep (view pass.old) }
+    ensures still { IsStill (view pass.old) (view pass.new) }
+    ensures ok { IfOk result (λ book. IsPassOf turns.now pass.new × IsTaken (view pass.old) book.history × (book ≡ book_of (view pass.old).frame book.history) × (view pass.new ≡ record (view pass.old) { turn = true; taken = book.history })) }
+    ensures err { OnErr result (IsIdle turns.now pass.new) }
+{
+    let Held { book } = turns.take(rt, pass);
+    let _version = book.version();
+    if book.spent() {
+        turns.give_back(pass, Held::of(book));
+        return Err(Memory);
+    }
+    Ok(book)
+}
+
+/// Makes an edit.
+pub fn edit<R: Wait>(
+    rt: &R,
+    alloc: Global,
+    turns: &Turnstile<Held>,
+    pass: &mut Pass<Held>,
+    e: &Edit,
+) -> Result<EditReply, Memory>
+    requires idle { IsIdle turns.now pass.old }
+    requires steps { CanStep (view pass.old) }
+    requires free { pending_in (view pass.old) ≡ None }
+    requires edit { IsEdit (seen_book (view pass.old)).extent e.now }
+    ensures idle { IsIdle turns.now pass.new }
+    ensures still { IsStill (view pass.old) (view pass.new) }
+    ensures adds { IfOk result (λ reply. (history : List TheStep) × Adds (view pass.old) (view pass.new) history (Editing (view pass.old).label e.now) × (reply ≡ edit_reply (state_of (book_of (view pass.old).frame history)).edits e.now)) }
+{
+    let mut book = take(rt, turns, pass)?;
+    match book.edit(alloc, pass.label(), e) {
+        Ok(reply) => {
+            turns.give(pass, Held::of(book));
+            Ok(reply)
+        }
+        Err(memory) => {
+            turns.give_back(pass, Held::of(book));
+            Err(memory)
+        }
+    }
+}
+
+/// Looks at a version. Takes one step unit for each visited node.
+pub fn look<R: Wait, L: Ledger>(
+    rt: &R,
+    alloc: Global,
+    turns: &Turnstile<Held>,
+    pass: &mut Pass<Held>,
+    q: Query,
+    steps: &mut Steps<L>,
+) -> Result<Looked, Memory>
+    requires idle { IsIdle turns.now pass.old }
+    requires steps { CanStep (view pass.old) }
+    requires free { pending_in (view pass.old) ≡ None }
+    requires query { IsQuery q }
+    requires allowed { AllowsSignatures (seen_book (view pass.old)).extent q.allowed }
+    ensures idle { IsIdle turns.now pass.new }
+    ensures still { IsStill (view pass.old) (view pass.new) }
+    ensures adds { IfOk result (λ looked. (history : List TheStep) × Adds (view pass.old) (view pass.new) history (Looking (view pass.old).label q) × IsLooked (view pass.old).label q (book_of (view pass.old).frame history) looked × (steps.new ≡ steps.old + look_visits (state_of (book_of (view pass.old).frame history)) q)) }
+{
+    let mut book = take(rt, turns, pass)?;
+    match look_at(alloc, &mut book, pass.label(), q, steps) {
+        Ok(looked) => {
+            turns.give(pass, Held::of(book));
+            Ok(looked)
+        }
+        Err(memory) => {
+            turns.give_back(pass, Held::of(book));
+            Err(memory)
+        }
+    }
+}
+
+/// Settles the pending look. After want of memory the book is spent.
+pub fn settle<R: Wait>(
+    rt: &R,
+    turns: &Turnstile<Held>,
+    pass: &mut Pass<Held>,
+    solved: &Solved,
+) -> Result<(), Memory>
+    requires idle { IsIdle turns.now pass.old }
+    requires steps { CanStep (view pass.old) }
+    requires settled { IsSettledBy (log_of (seen_book (view pass.old))) (pending_in (view pass.old)) solved.now.nodes.items }
+    ensures idle { IsIdle turns.now pass.new }
+    ensures still { IsStill (view pass.old) (view pass.new) }
+    ensures adds { OnOk result ((history : List TheStep) × Adds (view pass.old) (view pass.new) history (Settling (view pass.old).label)) }
+{
+    let mut book = take(rt, turns, pass)?;
+    match book.settle(pass.label(), solved) {
+        Ok(_kept) => {
+            turns.give(pass, Held::of(book));
+            Ok(())
+        }
+        Err(memory) => {
+            turns.give_back(pass, Held::of(book));
+            Err(memory)
+        }
+    }
+}
