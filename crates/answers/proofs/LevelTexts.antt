@@ -27,43 +27,47 @@ term-shown name (pos zero) h = absurd (h refl)
 term-shown name (pos (suc n)) h = refl
 term-shown name (negsuc n) h = refl
 
--- the terms of some words
-abbrev pub terms_text : (List ℕ → ℤ) → List (List ℕ) → List ℕ
-terms_text series words = flat_map (λ word. term_text (word_text word) (series word)) words
+-- what there is for some words and their coefficients
+abbrev pub for_words : {A : Type 0} → (List ℕ → ℤ → List A) → (List ℕ → ℤ) → List (List ℕ) → List A
+for_words term series words = flat_map (λ word. term word (series word)) words
 
 -- one word more
-pub terms-more : (width k i : ℕ) (values : ℕ → ℤ) (start text next : List ℕ) → i < width ^ k
-    → text ≡ start ++ terms_text (λ word. values (number width word)) (take i (words_of width k))
-    → next ≡ text ++ term_text (word_text (get_or (words_of width k) i [])) (values i)
-    → next ≡ start ++ terms_text (λ word. values (number width word)) (take (i + 1) (words_of width k))
-terms-more width k i values start text next h before step =
+pub words-more : {A : Type 0} (term : List ℕ → ℤ → List A) (width k i : ℕ) (values : ℕ → ℤ) (start text next : List A) → i < width ^ k
+    → text ≡ start ++ for_words term (λ word. values (number width word)) (take i (words_of width k))
+    → next ≡ text ++ term (get_or (words_of width k) i []) (values i)
+    → next ≡ start ++ for_words term (λ word. values (number width word)) (take (i + 1) (words_of width k))
+words-more term width k i values start text next h before step =
     let word : List ℕ = get_or (words_of width k) i [] in
-    let term : List ℕ → List ℕ = λ w. term_text (word_text w) (values (number width w)) in
     let its : IsNumbered width k i (get_or (words_of width k) i []) = word-numbered width k i h in
     step
-    ∙ ap₂ (λ (t : List ℕ) (n : ℕ). t ++ term_text (word_text word) (values n)) before (sym its.number_is)
-    ∙ flat_map_more term start (take i (words_of width k)) word
-    ∙ ap (λ ws. start ++ flat_map term ws) (sym (take_more (words_of width k) i [] (omega (arith, length-words_of width k))))
+    ∙ ap₂ (λ t (n : ℕ). t ++ term word (values n)) before (sym its.number_is)
+    ∙ flat_map_more (λ w. term w (values (number width w))) start (take i (words_of width k)) word
+    ∙ ap (λ ws. start ++ for_words term (λ w. values (number width w)) ws) (sym (take_more (words_of width k) i [] (omega (arith, length-words_of width k))))
 
-terms-same-each : (f g : List ℕ → ℤ) (words : List (List ℕ)) → All (λ word. f word ≡ g word) words → terms_text f words ≡ terms_text g words
-terms-same-each f g [] h = refl
-terms-same-each f g (word ∷ words) h =
-    ap₂ (λ (z : ℤ) (rest : List ℕ). term_text (word_text word) z ++ rest) (All-head (λ w. f w ≡ g w) word words h) (terms-same-each f g words (All-tail (λ w. f w ≡ g w) word words h))
+words-same-each : {A : Type 0} (term : List ℕ → ℤ → List A) (f g : List ℕ → ℤ) (words : List (List ℕ)) → All (λ word. f word ≡ g word) words → for_words term f words ≡ for_words term g words
+words-same-each term f g [] h = refl
+words-same-each term f g (word ∷ words) h =
+    ap₂ (λ (z : ℤ) rest. term word z ++ rest) (All-head (λ w. f w ≡ g w) word words h) (words-same-each term f g words (All-tail (λ w. f w ≡ g w) word words h))
 
 -- only the words of the extent count
-pub terms-same : (extent : Extent) (f g : List ℕ → ℤ) (k : ℕ) → k ≤ extent.depth → ((word : List ℕ) → IsWord extent word → length word ≡ k → f word ≡ g word)
-    → terms_text f (words_of extent.width k) ≡ terms_text g (words_of extent.width k)
-terms-same extent f g k h same =
-    terms-same-each f g (words_of extent.width k) (All-from_get_or (λ word. f word ≡ g word) (words_of extent.width k) []
+pub words-same : {A : Type 0} (term : List ℕ → ℤ → List A) (extent : Extent) (f g : List ℕ → ℤ) (k : ℕ) → k ≤ extent.depth
+    → ((word : List ℕ) → IsWord extent word → length word ≡ k → f word ≡ g word)
+    → for_words term f (words_of extent.width k) ≡ for_words term g (words_of extent.width k)
+words-same term extent f g k h same =
+    words-same-each term f g (words_of extent.width k) (All-from_get_or (λ word. f word ≡ g word) (words_of extent.width k) []
     (λ i lt.
     let its : IsNumbered extent.width k i (get_or (words_of extent.width k) i []) = word-numbered extent.width k i (omega (arith, length-words_of extent.width k)) in
     same (get_or (words_of extent.width k) i []) (record { short = omega (arith, its.len); letters = its.letters }) its.len))
+
+-- the text of a word's coefficient
+abbrev pub numerator_text : List ℕ → ℤ → List ℕ
+numerator_text word value = term_text (word_text word) value
 
 levels-same-up-to : (extent : Extent) (f g : List ℕ → ℤ) (k : ℕ) → k ≤ extent.depth → ((word : List ℕ) → IsWord extent word → f word ≡ g word)
     → flat_map (level_text extent f) (up_to k) ≡ flat_map (level_text extent g) (up_to k)
 levels-same-up-to extent f g zero h same = refl
 levels-same-up-to extent f g (suc k) h same =
-    let terms : terms_text f (words_of extent.width (suc k)) ≡ terms_text g (words_of extent.width (suc k)) = terms-same extent f g (suc k) h (λ word is _. same word is) in
+    let terms : for_words numerator_text f (words_of extent.width (suc k)) ≡ for_words numerator_text g (words_of extent.width (suc k)) = words-same numerator_text extent f g (suc k) h (λ word is _. same word is) in
     flat_map-append (level_text extent f) (up_to k) (suc k ∷ [])
     ∙ ap₂ (λ (front : List ℕ) (terms : List ℕ). front ++ (codes "level " ++ decimal (suc k) ++ codes " over " ++ decimal (factorial (suc k)) ++ terms ++ codes "\n" ++ [])) (levels-same-up-to extent f g k (omega arith) same) terms
     ∙ sym (flat_map-append (level_text extent g) (up_to k) (suc k ∷ []))

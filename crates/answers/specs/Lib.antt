@@ -1,1 +1,4 @@
 pub mod Text
+pub mod Json
+pub mod Generator
+pub mod Totals

@@ -1,10 +1,17 @@
-//! The text that a run writes.
+//! The text that a run writes, the same in JSON, the script that a number generates, and the summary of its run.
 #![tactic(auto)]
 
 mod coordinates;
+mod generator;
+mod json_levels;
+mod json_text;
 mod levels;
+mod summary;
 #[cfg(test)]
 mod tests;
 mod text;
 
+pub use generator::gen_script;
+pub use json_text::json_of;
+pub use summary::summary_of;
 pub use text::text_of;

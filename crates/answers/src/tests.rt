@@ -1,12 +1,13 @@
-ghost use Rattle.std.specs.Prelude.{◌≡◌};
+ghost use Rattle.std.specs.Prelude.{◌≡◌, ◌<◌, ◌≤◌};
 
-use crate::text_of;
+use crate::{gen_script, json_of, summary_of, text_of};
 use hall_set::HallSet;
 use scaled_tensor::Tensor;
-use session::{Answer, EditReply, LookReply, Outcome, Transcript};
+use session::{Answer, EditReply, LookReply, Outcome, Transcript, replay_round};
 use std::alloc::Global;
+use std::sync::ledger::{Blank, Ledger};
 use std::test::Fail;
-use words::{Memory, Shape, ShapeFault};
+use words::{Free, Memory, Shape, ShapeFault, Steps};
 
 /// The coefficients 2, -3 at the letters and 4, 0, -6, 9 at the pairs of letters.
 fn tensor(alloc: Global, shape: Shape) -> Result<Tensor, Memory>
@@ -46,8 +47,9 @@ fn each_answer(rt: HostRuntime) -> Result<(), Fail> {
         order: vec![in alloc; 1, 2, 1]?,
         versions: 1,
     };
+    let hall = HallSet::build(alloc, shape)?;
     assert_eq!(rt;
-        text_of(alloc, &HallSet::build(alloc, shape)?, &outcome)?.as_slice(),
+        text_of(alloc, &hall, &outcome)?.as_slice(),
         b"shape 2 2
 session 1
 1 done 1
@@ -61,6 +63,47 @@ level 2 over 2 (1,1)=4 (2,1)=-6 (2,2)=9
 order 1,2,1
 versions 1
 "
+            .as_slice()
+    );
+    assert_eq!(rt;
+        json_of(alloc, &hall, &outcome)?.as_slice(),
+        br#"{"order":[1,2,1],"sessions":[[{"command":1,"reply":"done","version":1},{"command":2,"reply":"name-taken","version":1},{"command":3,"reply":"no-row","version":1},{"command":4,"reply":"no-version","version":1},{"command":5,"reply":"overflow","weight":"60097"},{"command":6,"exps":4,"hits":2,"levels":[{"over":"1","terms":[["(1)","2"],["(2)","-3"]]},{"over":"2","terms":[["(1,1)","4"],["(2,1)","-6"],["(2,2)","9"]]}],"misses":3,"reply":"sig","version":1}]],"shape":[2,2],"versions":1}
+"#
+            .as_slice()
+    );
+    Ok(())
+}
+
+#[test]
+fn one_row_in_json(rt: HostRuntime) -> Result<(), Fail> {
+    let alloc = rt.alloc();
+    let shape = Shape::new(2, 2)?;
+    let mut tensor = Tensor::unit(alloc, shape)?;
+    tensor.set(&[1], 2);
+    tensor.set(&[2], 3);
+    tensor.set(&[1, 1], 4);
+    tensor.set(&[1, 2], 6);
+    tensor.set(&[2, 1], 6);
+    tensor.set(&[2, 2], 9);
+    let reply = LookReply::Found {
+        version: 1,
+        hits: 0,
+        misses: 1,
+        exps: 1,
+    };
+    let answers = vec![in alloc;
+        Answer::Edit(EditReply::Done(1)),
+        Answer::Sig { reply, tensor },
+    ]?;
+    let outcome = Outcome {
+        transcripts: vec![in alloc; Transcript::of(answers)]?,
+        order: vec![in alloc; 1, 1, 1]?,
+        versions: 1,
+    };
+    assert_eq!(rt;
+        json_of(alloc, &HallSet::build(alloc, shape)?, &outcome)?.as_slice(),
+        br#"{"order":[1,1,1],"sessions":[[{"command":1,"reply":"done","version":1},{"command":2,"exps":1,"hits":0,"levels":[{"over":"1","terms":[["(1)","2"],["(2)","3"]]},{"over":"2","terms":[["(1,1)","4"],["(1,2)","6"],["(2,1)","6"],["(2,2)","9"]]}],"misses":1,"reply":"sig","version":1}]],"shape":[2,2],"versions":1}
+"#
             .as_slice()
     );
     Ok(())
@@ -81,6 +124,51 @@ fn no_answers(rt: HostRuntime) -> Result<(), Fail> {
     assert_eq!(rt;
         text_of(alloc, &HallSet::build(alloc, shape)?, &outcome)?.as_slice(),
         expected.as_slice()
+    );
+    Ok(())
+}
+
+/// The order and the summary of the run of the script that n generates.
+fn run_of<L: Ledger>(alloc: Global, n: u32, blank: Blank) -> Result<(Vec<u32>, Vec<u8>), Memory>
+    requires some { 1 ≤ n }
+    requires within { n ≤ 10000 }
+    requires name { blank.name ≡ L.name }
+    requires parts { blank.parts ≡ L.parts }
+    requires counted { 0 < L.parts }
+{
+    let mut steps: Steps<L> = Steps::new(blank);
+    let script = gen_script(alloc, n)?;
+    let outcome = replay_round(alloc, &script, 4096, &mut steps)?;
+    let summary = summary_of(alloc, n, script.shape(), &outcome)?;
+    Ok((outcome.order, summary))
+}
+
+/// That run, over a count of steps that nobody reads.
+fn free_run_of(alloc: Global, n: u32) -> Result<(Vec<u32>, Vec<u8>), Memory>
+    requires some { 1 ≤ n }
+    requires within { n ≤ 10000 }
+{
+    run_of::<Free>(alloc, n, Blank::new(1))
+}
+
+#[test]
+fn eight_commands(rt: HostRuntime) -> Result<(), Fail> {
+    let (order, summary) = free_run_of(rt.alloc(), 8)?;
+    assert_eq!(rt; order.as_slice(), [1, 2, 3, 4, 1, 2, 3, 4, 4].as_slice());
+    assert_eq!(rt;
+        summary.as_slice(),
+        b"gen 8\nsteps 9\nversions 7\nhits 0\nmisses 1\nexps 2\nsum 60\n".as_slice()
+    );
+    Ok(())
+}
+
+#[test]
+fn one_command(rt: HostRuntime) -> Result<(), Fail> {
+    let (order, summary) = free_run_of(rt.alloc(), 1)?;
+    assert_eq!(rt; order.as_slice(), [1].as_slice());
+    assert_eq!(rt;
+        summary.as_slice(),
+        b"gen 1\nsteps 1\nversions 1\nhits 0\nmisses 0\nexps 0\nsum 0\n".as_slice()
     );
     Ok(())
 }

@@ -4,7 +4,7 @@ use Rattle.std.proofs.lemmas.List.{take_all}
 use Rattle.std.proofs.lemmas.Int.{to_z-of_z}
 use Rattle.definitions.specs.Words.{words_of, number}
 use Rattle.definitions.proofs.WordLists.{length-words_of}
-use Rattle.answers.proofs.LevelTexts.{terms_text, terms-more}
+use Rattle.answers.proofs.LevelTexts.{for_words, numerator_text, words-more}
 use Rattle.answers.proofs.levels.push_terms.Goals as goal
 
 pub loop-index-preserved : goal.loop-index-preserved
@@ -15,12 +15,12 @@ loop-index-preserved c =
     let k : length c.loop-index.word ≡ c.args.k = c.loop-index.invariant.len in
     record {
       len = omega arith;
-      written = terms-more c.args.shape.width c.args.k c.loop-index.index (λ n. slice_index_or c.args.coefficients.now n (pos 0)) (string_bytes c.args.text.now) (string_bytes c.loop-index.text) (string_bytes c.push_numbered.new.text) within c.loop-index.invariant.written
+      written = words-more numerator_text c.args.shape.width c.args.k c.loop-index.index (λ n. slice_index_or c.args.coefficients.now n (pos 0)) (string_bytes c.args.text.now) (string_bytes c.loop-index.text) (string_bytes c.push_numbered.new.text) within c.loop-index.invariant.written
           (rw (k, same) at c.in_ok-push_numbered.ensures);
     }
 
 pub returns : goal.returns
 returns c =
     c.loop-index.invariant.written
-    ∙ ap (λ (ws : List (List ℕ)). string_bytes c.args.text.now ++ terms_text (λ word. slice_index_or c.args.coefficients.now (number c.args.shape.width word) (pos 0)) ws)
+    ∙ ap (λ (ws : List (List ℕ)). string_bytes c.args.text.now ++ for_words numerator_text (λ word. slice_index_or c.args.coefficients.now (number c.args.shape.width word) (pos 0)) ws)
     (take_all c.loop-index.index (words_of c.args.shape.width c.args.k) (omega (arith, length-words_of c.args.shape.width c.args.k)))
