@@ -2,7 +2,7 @@
 #![tactic(auto)]
 
 use rough_io::{StdSink, StdSource};
-use rough_main::rough_plain;
+use rough_main::{Through, rough};
 use std::process::ExitCode;
 use std::rt::Env;
 use std::{env, io};
@@ -26,5 +26,5 @@ fn main(rt: HostRuntime) -> ExitCode {
     };
     let mut source = StdSource::new(rt.stdin());
     let mut sink = StdSink::new(rt.stdout());
-    ExitCode::from(rough_plain(rt.alloc(), &words, &mut source, &mut sink))
+    ExitCode::from(rough(&rt, rt.alloc(), &words, &mut source, &mut sink, &Through))
 }

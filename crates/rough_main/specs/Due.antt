@@ -1,16 +1,15 @@
--- What a run is due: a status and a text, from the words of the command line and the bytes of the script.
-use Rattle.std.specs.Prelude.{◌≡◌, ◌⊎◌, ℕ, List, [], ◌++◌, codes, Option, Some, None, Result, Ok, Err}
+-- What a run is due: a status and a text, from what the command line wishes and the bytes of the script.
+use Rattle.std.specs.Prelude.{◌≡◌, ◌⊎◌, ℕ, Bool, true, false, List, [], ◌++◌, codes, Option, Some, None, Result, Ok, Err}
 use Rattle.std.specs.Fmt.{decimal}
 use Rattle.command_line.specs.declared.wish.Form.TheVariants as form
 use Rattle.command_line.specs.declared.wish.Wish.{Wish}
 use Rattle.command_line.specs.declared.wish.Wish.TheVariants as wishes
-use Rattle.command_line.specs.Wishes.{wish_of}
 use Rattle.script_reader.specs.declared.fault.Reason.{Reason}
-use Rattle.script_reader.specs.declared.fault.Reason.TheVariants.{Byte, Keyword, Place, Later, Fields, Name, Time, Number, Width, Depth, Words, Session, Interval, Resolution, Commands, Load, Answers, End}
+use Rattle.script_reader.specs.declared.fault.Reason.TheVariants.{Byte, Keyword, Place, Fields, Name, Time, Number, Width, Depth, Words, Session, Interval, Resolution, Commands, Load, Answers, End}
 use Rattle.script_reader.specs.declared.fault.ScriptFault.{ScriptFault}
 use Rattle.script_reader.specs.declared.fault.ScriptFault.TheVariants.{Size, Line, Memory}
 use Rattle.script_reader.specs.Script.{ScriptValue, parse}
-use Rattle.session.specs.Play.{due_outcome, illegal_place, round_order}
+use Rattle.session.specs.Play.{due_outcome, illegal_place}
 use Rattle.answers.specs.Text.{outcome_text}
 
 pub record DueReply : Type 0 where
@@ -21,7 +20,6 @@ abbrev pub reason_text : Reason → List ℕ
 reason_text Byte = codes "byte"
 reason_text Keyword = codes "keyword"
 reason_text Place = codes "place"
-reason_text Later = codes "later"
 reason_text Fields = codes "fields"
 reason_text Name = codes "name"
 reason_text Time = codes "time"
@@ -58,15 +56,18 @@ abbrev pub unless_illegal : Option ℕ → DueReply → DueReply
 unless_illegal None reply = reply
 unless_illegal (Some place) reply = record { status = 3; text = place_text place }
 
--- the order that is given, or turns
-abbrev pub ordered : ℕ → ScriptValue → Option (List ℕ) → DueReply
-ordered capacity script (Some order) = unless_illegal (illegal_place capacity script order) (answered capacity script order)
-ordered capacity script None = answered capacity script (round_order capacity script)
+abbrev pub ordered : ℕ → ScriptValue → List ℕ → DueReply
+ordered capacity script order = unless_illegal (illegal_place capacity script order) (answered capacity script order)
 
--- the answers of an accepted script, or why it is refused
-abbrev pub script_reply : ℕ → Option (List ℕ) → Result ScriptValue ScriptFault → DueReply
+-- the answers of an accepted script whose sessions take their steps in this order, or why it is refused
+abbrev pub script_reply : ℕ → List ℕ → Result ScriptValue ScriptFault → DueReply
 script_reply capacity order (Ok script) = ordered capacity script order
 script_reply capacity order (Err fault) = record { status = 3; text = fault_text fault }
+
+-- the order is legal for a script that is accepted
+abbrev pub IsLegalFor : ℕ → List ℕ → Result ScriptValue ScriptFault → Type 0
+IsLegalFor capacity order (Ok script) = illegal_place capacity script order ≡ None
+IsLegalFor capacity order (Err fault) = Unit {0}
 
 -- ---- wishes
 -- why a wish is refused before anything is read: the words are wrong, or what they wish is not built yet
@@ -83,20 +84,23 @@ capacity_of (wishes.Given order capacity written) = capacity
 capacity_of (wishes.Gen n capacity) = capacity
 capacity_of wishes.Refused = 4096
 
--- the order that is given
-abbrev pub order_of : Wish → Option (List ℕ)
-order_of (wishes.Given order capacity written) = Some order
-order_of _ = None
+-- the order that is given, or else the one that threads take
+abbrev pub order_in : Wish → List ℕ → List ℕ
+order_in (wishes.Given given capacity written) order = given
+order_in _ order = order
+
+-- the sessions run on threads: no order is given, and nothing is refused
+abbrev pub is_threaded : Wish → Bool
+is_threaded (wishes.Threads capacity form.Text) = true
+is_threaded _ = false
 
 abbrev pub refused_or : Option (List ℕ) → DueReply → DueReply
 refused_or (Some text) reply = record { status = 2; text = text }
 refused_or None reply = reply
 
-abbrev pub wished : Wish → List ℕ → DueReply
-wished wish bytes = refused_or (refusal_of wish) (script_reply (capacity_of wish) (order_of wish) (parse bytes))
-
-abbrev pub due_reply : List (List ℕ) → List ℕ → DueReply
-due_reply words bytes = wished (wish_of words) bytes
+-- what is due to a wish and the bytes of the source, where threads take their steps in this order
+abbrev pub due_reply : Wish → List ℕ → List ℕ → DueReply
+due_reply wish bytes order = refused_or (refusal_of wish) (script_reply (capacity_of wish) (order_in wish order) (parse bytes))
 
 -- a status and a text are the ones that are due
 abbrev pub IsReply : ℕ → List ℕ → DueReply → Type 0

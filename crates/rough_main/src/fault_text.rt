@@ -14,7 +14,6 @@ fn reason_name(reason: Reason) -> &'static str
         Reason::Byte => "byte",
         Reason::Keyword => "keyword",
         Reason::Place => "place",
-        Reason::Later => "later",
         Reason::Fields => "fields",
         Reason::Name => "name",
         Reason::Time => "time",

@@ -5,7 +5,10 @@ mod fault_text;
 mod reply;
 #[cfg(test)]
 mod tests;
+#[cfg(test)]
+mod thread_tests;
 pub mod top;
 
 pub use command_line::read_words;
-pub use top::rough_plain;
+pub use session::{Gate, Through};
+pub use top::{rough, rough_plain};

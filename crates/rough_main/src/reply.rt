@@ -1,23 +1,27 @@
 //! The reply that is due, made whole before anything is written.
-ghost use Rattle.std.specs.Prelude.{◌≡◌, ◌<◌, ◌≤◌, ℕ, List, Some, None, IfOk, OnOk};
+ghost use Rattle.std.specs.Prelude.{◌≡◌, ◌<◌, ◌≤◌, ℕ, List, Result, IfOk, OnOk};
 ghost use Rattle.std.specs.Option.{option_copied};
-ghost use Rattle.script_reader.specs.Script.{parse};
-ghost use Rattle.command_line.specs.Wishes.{HasCapacity};
+ghost use Rattle.script_reader.specs.declared.fault.ScriptFault.{ScriptFault as TheFault};
+ghost use Rattle.script_reader.specs.Script.{ScriptValue, parse};
 ghost use Rattle.session.specs.Play.{DueOutcome};
 ghost use Rattle.session.specs.Answers.{IsOutcome, AllHaveMembers};
-ghost use Rattle.session.specs.Logarithms.{ExpandIn, LogarithmsExpand};
+ghost use Rattle.session.specs.Logarithms.{LogarithmsExpand};
+ghost use Rattle.session.specs.Versions.{VersionsNeverFall};
 ghost use Rattle.answers.specs.Text.{outcome_text};
-ghost use Rattle.rough_main.specs.Due.{ordered, script_reply, refusal_of, capacity_of, order_of, IsReply};
+ghost use Rattle.rough_main.specs.Due.{ordered, script_reply, refusal_of, IsReply, IsLegalFor};
+ghost use Rattle.rough_main.specs.Made.{IsParsed};
 
 use crate::fault_text::{line_text, place_text};
 use answers::text_of;
 use command_line::{Form, Wish};
 use hall_set::HallSet;
 use script_reader::{Script, ScriptFault, read_script};
-use session::laws::logarithms_expand;
-use session::{Outcome, ReplayFault, replay, replay_round};
+use session::laws::{logarithms_expand, versions_never_fall};
+use session::{Gate, Outcome, ReplayFault, replay, run_all};
 use std::alloc::Global;
+use std::sync::Wait;
 use std::sync::ledger::{Blank, Ledger};
+use std::thread::Threads;
 use words::{Free, Memory, Steps};
 
 /// A status, and the text that is to be written with it.
@@ -25,6 +29,32 @@ use words::{Free, Memory, Steps};
 pub struct Reply {
     pub status: u8,
     pub text: Vec<u8>,
+}
+
+/// The script that bytes spell, or the reply that says why it is none.
+#[derive(Drop)]
+pub enum Parsed {
+    Script(Script),
+    Refused(Reply),
+}
+
+/// The script that bytes spell, or the reply that names its fault.
+pub fn script_in(alloc: Global, bytes: &[u8]) -> Result<Parsed, Memory>
+    ensures parsed { IfOk result (IsParsed (parse bytes.now)) }
+    ensures logarithms { OnOk result (LogarithmsExpand (parse bytes.now)) }
+    ensures versions { OnOk result (VersionsNeverFall (parse bytes.now)) }
+{
+    let text = match read_script(alloc, bytes) {
+        Ok(script) => {
+            logarithms_expand(&script);
+            versions_never_fall(&script);
+            return Ok(Parsed::Script(script));
+        }
+        Err(ScriptFault::Size) => Vec::from_slice(alloc, b"fault size\n")?,
+        Err(ScriptFault::Line(line, reason)) => line_text(alloc, line, reason)?,
+        Err(ScriptFault::Memory) => return Err(Memory),
+    };
+    Ok(Parsed::Refused(Reply { status: 3, text }))
 }
 
 /// The reply with the text of an outcome.
@@ -39,27 +69,8 @@ fn reply_with(alloc: Global, script: &Script, outcome: &Outcome) -> Result<Reply
     })
 }
 
-/// The reply to a script whose sessions take one step each in turn, over a count of steps that begins here.
-fn in_turns<L: Ledger>(
-    alloc: Global,
-    script: &Script,
-    capacity: u32,
-    blank: Blank,
-) -> Result<Reply, Memory>
-    requires name { blank.name ≡ L.name }
-    requires parts { blank.parts ≡ L.parts }
-    requires counted { 0 < L.parts }
-    requires some { 1 ≤ capacity }
-    requires within { capacity ≤ 16384 }
-    ensures { IfOk result (λ reply. IsReply reply.status reply.text.items (ordered capacity script.now None)) }
-{
-    let mut steps: Steps<L> = Steps::new(blank);
-    let outcome = replay_round(alloc, script, capacity, &mut steps)?;
-    reply_with(alloc, script, &outcome)
-}
-
 /// The reply to a script whose sessions take their steps in this order, over a count of steps that begins here.
-fn in_order<L: Ledger>(
+fn reply_counted<L: Ledger>(
     alloc: Global,
     script: &Script,
     capacity: u32,
@@ -71,7 +82,7 @@ fn in_order<L: Ledger>(
     requires counted { 0 < L.parts }
     requires some { 1 ≤ capacity }
     requires within { capacity ≤ 16384 }
-    ensures { IfOk result (λ reply. IsReply reply.status reply.text.items (ordered capacity script.now (Some order.now))) }
+    ensures { IfOk result (λ reply. IsReply reply.status reply.text.items (ordered capacity script.now order.now)) }
 {
     let mut steps: Steps<L> = Steps::new(blank);
     match replay(alloc, script, capacity, order, &mut steps) {
@@ -84,41 +95,49 @@ fn in_order<L: Ledger>(
     }
 }
 
-/// The reply to a script that is accepted.
-fn accepted(alloc: Global, wish: &Wish, script: &Script) -> Result<Reply, Memory>
-    requires built { refusal_of wish.now ≡ None }
-    requires capacity { HasCapacity wish.now }
-    ensures reply { IfOk result (λ reply. IsReply reply.status reply.text.items (ordered (capacity_of wish.now) script.now (order_of wish.now))) }
-    ensures logarithms { (capacity : ℕ) → (order : List ℕ) → ExpandIn capacity script.now order }
+/// The reply to bytes that spell a script whose sessions take their steps in this order.
+pub fn reply_in_order(
+    alloc: Global,
+    parsed: Parsed,
+    capacity: u32,
+    order: &[u32],
+) -> Result<Reply, Memory>
+    requires some { 1 ≤ capacity }
+    requires within { capacity ≤ 16384 }
+    ensures { (spelled : Result ScriptValue TheFault) → IsParsed spelled parsed → IfOk result (λ reply. IsReply reply.status reply.text.items (script_reply capacity order.now spelled)) }
 {
-    logarithms_expand(script);
-    match wish {
-        Wish::Threads { capacity, .. } => {
-            in_turns::<Free>(alloc, script, *capacity, Blank::new(1))
-        }
-        Wish::Given {
-            order,
+    match parsed {
+        Parsed::Script(script) => reply_counted::<Free>(
+            alloc,
+            &script,
             capacity,
-            ..
-        } => in_order::<Free>(alloc, script, *capacity, order.list(), Blank::new(1)),
-        Wish::Gen { .. } | Wish::Refused => unreachable!(),
+            order,
+            Blank::new(1),
+        ),
+        Parsed::Refused(reply) => Ok(reply),
     }
 }
 
-/// The reply to the bytes of a script.
-pub fn reply_to_script(alloc: Global, wish: &Wish, bytes: &[u8]) -> Result<Reply, Memory>
-    requires built { refusal_of wish.now ≡ None }
-    requires capacity { HasCapacity wish.now }
-    ensures reply { IfOk result (λ reply. IsReply reply.status reply.text.items (script_reply (capacity_of wish.now) (order_of wish.now) (parse bytes.now))) }
-    ensures logarithms { OnOk result (LogarithmsExpand (parse bytes.now)) }
+/// The reply to bytes that spell a script whose sessions run on threads. It is that of a legal order.
+pub fn reply_on_threads<R: Threads + Wait + Sync, G: Gate>(
+    rt: &R,
+    alloc: Global,
+    parsed: Parsed,
+    capacity: u32,
+    gate: &G,
+) -> Result<Reply, Memory>
+    requires some { 1 ≤ capacity }
+    requires within { capacity ≤ 16384 }
+    ensures { (spelled : Result ScriptValue TheFault) → IsParsed spelled parsed →
+        IfOk result (λ reply. (order : List ℕ) × IsLegalFor capacity order spelled × IsReply reply.status reply.text.items (script_reply capacity order spelled)) }
 {
-    let text = match read_script(alloc, bytes) {
-        Ok(script) => return accepted(alloc, wish, &script),
-        Err(ScriptFault::Size) => Vec::from_slice(alloc, b"fault size\n")?,
-        Err(ScriptFault::Line(line, reason)) => line_text(alloc, line, reason)?,
-        Err(ScriptFault::Memory) => return Err(Memory),
-    };
-    Ok(Reply { status: 3, text })
+    match parsed {
+        Parsed::Script(script) => {
+            let outcome = run_all(rt, alloc, &script, capacity, gate)?;
+            reply_with(alloc, &script, &outcome)
+        }
+        Parsed::Refused(reply) => Ok(reply),
+    }
 }
 
 /// Why a wish is refused before anything is read.

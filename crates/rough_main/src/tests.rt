@@ -1,7 +1,9 @@
-use crate::rough_plain;
+use crate::{Through, rough, rough_plain};
 use rough_io::{MemorySink, MemorySource};
 use std::alloc::Global;
+use std::sync::Wait;
 use std::test::Fail;
+use std::thread::Threads;
 
 /// Scripts with their answers.
 const ANSWERED: [(&str, &str); 16] = [
@@ -429,7 +431,8 @@ struct Ended {
 
 /// Runs a script that is read nine bytes at a time and answered seven bytes at a time, where the reads and
 /// writes of these numbers fail.
-fn run_over_memory(
+fn run_over_memory<R: Threads + Wait + Sync>(
+    rt: &R,
     alloc: Global,
     words: &[&str],
     script: &str,
@@ -443,7 +446,7 @@ fn run_over_memory(
     for word in words {
         line.push(String::from_str(alloc, word)?)?;
     }
-    let status = rough_plain(alloc, &line, &mut source, &mut sink);
+    let status = rough(rt, alloc, &line, &mut source, &mut sink, &Through);
     Ok(Ended {
         status,
         written: String::from_utf8(Vec::from_slice(alloc, sink.written())?)?,
@@ -454,7 +457,7 @@ fn run_over_memory(
 #[test]
 fn scripts_are_answered(rt: HostRuntime) -> Result<(), Fail> {
     for (script, answers) in ANSWERED {
-        let run = run_over_memory(rt.alloc(), &[], script, &[], &[])?;
+        let run = run_over_memory(&rt, rt.alloc(), &[], script, &[], &[])?;
         assert_eq!(rt; run.status, 0);
         assert_eq!(rt; run.written.as_str(), answers);
     }
@@ -464,7 +467,7 @@ fn scripts_are_answered(rt: HostRuntime) -> Result<(), Fail> {
 #[test]
 fn logarithms_are_answered(rt: HostRuntime) -> Result<(), Fail> {
     for (script, answers) in LOGARITHMS {
-        let run = run_over_memory(rt.alloc(), &[], script, &[], &[])?;
+        let run = run_over_memory(&rt, rt.alloc(), &[], script, &[], &[])?;
         assert_eq!(rt; run.status, 0);
         assert_eq!(rt; run.written.as_str(), answers);
     }
@@ -489,10 +492,13 @@ fn scripts_are_refused(rt: HostRuntime) -> Result<(), Fail> {
             "shape 2 2\nsession 1\nsig 2 1 0\n",
             "fault line 3 interval\n",
         ),
-        ("shape 2 2\nsession 1\nsession 2\n", "fault line 3 later\n"),
+        (
+            "shape 2 2\nsession 1\nsession 3\n",
+            "fault line 3 session\n",
+        ),
         ("", "fault line 1 end\n"),
     ] {
-        let run = run_over_memory(rt.alloc(), &[], script, &[], &[])?;
+        let run = run_over_memory(&rt, rt.alloc(), &[], script, &[], &[])?;
         assert_eq!(rt; run.status, 3);
         assert_eq!(rt; run.written.as_str(), refusal);
     }
@@ -503,13 +509,13 @@ fn scripts_are_refused(rt: HostRuntime) -> Result<(), Fail> {
 fn each_read_may_fail(rt: HostRuntime) -> Result<(), Fail> {
     // Five reads of nine bytes, and one that finds the end.
     for read in 1..=6u64 {
-        let run = run_over_memory(rt.alloc(), &[], SCRIPT, &[read], &[])?;
+        let run = run_over_memory(&rt, rt.alloc(), &[], SCRIPT, &[read], &[])?;
         assert_eq!(rt; run.status, 4, "at read {read}");
         assert_eq!(rt; run.written.as_str(), "");
         assert_eq!(rt; run.faults, (1, 0));
     }
     assert_eq!(rt;
-        run_over_memory(rt.alloc(), &[], SCRIPT, &[7], &[])?.status,
+        run_over_memory(&rt, rt.alloc(), &[], SCRIPT, &[7], &[])?.status,
         0
     );
     Ok(())
@@ -519,14 +525,14 @@ fn each_read_may_fail(rt: HostRuntime) -> Result<(), Fail> {
 fn each_write_may_fail(rt: HostRuntime) -> Result<(), Fail> {
     // Twenty-four writes of seven bytes.
     for write in 1..=24u64 {
-        let run = run_over_memory(rt.alloc(), &[], SCRIPT, &[], &[write])?;
+        let run = run_over_memory(&rt, rt.alloc(), &[], SCRIPT, &[], &[write])?;
         assert_eq!(rt; run.status, 5, "at write {write}");
         assert!(rt; ANSWERS.starts_with(run.written.as_str()));
         assert_eq!(rt; run.written.len() as u64, 7 * (write - 1));
         assert_eq!(rt; run.faults, (0, 1));
     }
     assert_eq!(rt;
-        run_over_memory(rt.alloc(), &[], SCRIPT, &[], &[25])?.status,
+        run_over_memory(&rt, rt.alloc(), &[], SCRIPT, &[], &[25])?.status,
         0
     );
     Ok(())
@@ -541,15 +547,18 @@ fn words_are_answered_unread(rt: HostRuntime) -> Result<(), Fail> {
         (&["--json", "--json"], "fault words\n"),
         (&["--gen", "8", "--json"], "fault words\n"),
         (&["x"], "fault words\n"),
+        (&["--order=1,1,1", "--order", "1"], "fault words\n"),
+        (&["--order", "-1"], "fault words\n"),
+        (&["--order"], "fault words\n"),
         (&["--json"], "fault later\n"),
         (&["--gen", "8"], "fault later\n"),
     ] {
         // A read would fail.
-        let run = run_over_memory(rt.alloc(), words, SCRIPT, &[1], &[])?;
+        let run = run_over_memory(&rt, rt.alloc(), words, SCRIPT, &[1], &[])?;
         assert_eq!(rt; run.status, 2);
         assert_eq!(rt; run.written.as_str(), refusal);
     }
-    let run = run_over_memory(rt.alloc(), &["--cache", "5"], SCRIPT, &[], &[])?;
+    let run = run_over_memory(&rt, rt.alloc(), &["--cache", "5"], SCRIPT, &[], &[])?;
     assert_eq!(rt; run.status, 0);
     assert_eq!(rt; run.written.as_str(), ANSWERS);
     Ok(())
@@ -565,7 +574,7 @@ fn orders_are_legal_or_not(rt: HostRuntime) -> Result<(), Fail> {
         ("1,2,1", 3, "fault order place 2\n"),
         ("none", 3, "fault order place 1\n"),
     ] {
-        let run = run_over_memory(rt.alloc(), &["--order", order], SCRIPT, &[], &[])?;
+        let run = run_over_memory(&rt, rt.alloc(), &["--order", order], SCRIPT, &[], &[])?;
         assert_eq!(rt; run.status, status, "in the order {order}");
         assert_eq!(rt; run.written.as_str(), text);
     }
@@ -581,7 +590,7 @@ append b 1 2\n\
 sig 0 1 0\n\
 sig 1 2 0\n\
 sig 0 1 0\n";
-    let run = run_over_memory(rt.alloc(), &["--cache", "1"], script, &[], &[])?;
+    let run = run_over_memory(&rt, rt.alloc(), &["--cache", "1"], script, &[], &[])?;
     assert_eq!(rt; run.status, 0);
     assert_eq!(rt;
         run.written.as_str(),
@@ -598,5 +607,141 @@ level 1 over 1 (1)=1\n\
 order 1,1,1,1,1,1,1,1\n\
 versions 2\n"
     );
+    Ok(())
+}
+
+const TWO_SESSIONS: &str = "shape 1 2\n\
+session 1\n\
+append a 0 1\n\
+sig 0 1 0\n\
+sig 0 1 0\n\
+session 2\n\
+append b 1/2 1\n";
+
+const TWO_LOOKS: &str = "shape 1 2\n\
+session 1\n\
+append a 0 1\n\
+sig 0 1 0\n\
+session 2\n\
+append b 1/2 1\n\
+sig 0 1 0\n\
+sig 0 1 0 at 1\n";
+
+/// Scripts of two sessions, an order of their steps, and their answers in it.
+const ORDERED: [(&str, &str, &str); 3] = [
+    // in turns
+    (
+        TWO_SESSIONS,
+        "1,2,1,1,1",
+        "shape 1 2\n\
+session 1\n\
+1 done 1\n\
+2 sig version 2 hits 0 misses 1 exps 2\n\
+level 1 over 1 (1)=2\n\
+level 2 over 2 (1,1)=4\n\
+3 sig version 2 hits 1 misses 0 exps 0\n\
+level 1 over 1 (1)=2\n\
+level 2 over 2 (1,1)=4\n\
+session 2\n\
+1 done 2\n\
+order 1,2,1,1,1\n\
+versions 2\n",
+    ),
+    // the edit of the other session falls between a look and its settle
+    (
+        TWO_SESSIONS,
+        "1,1,2,1,1,1",
+        "shape 1 2\n\
+session 1\n\
+1 done 1\n\
+2 sig version 1 hits 0 misses 1 exps 1\n\
+level 1 over 1 (1)=1\n\
+level 2 over 2 (1,1)=1\n\
+3 sig version 2 hits 0 misses 1 exps 2\n\
+level 1 over 1 (1)=2\n\
+level 2 over 2 (1,1)=4\n\
+session 2\n\
+1 done 2\n\
+order 1,1,2,1,1,1\n\
+versions 2\n",
+    ),
+    // looks and settles of two sessions cross
+    (
+        TWO_LOOKS,
+        "1,1,2,2,1,2,2",
+        "shape 1 2\n\
+session 1\n\
+1 done 1\n\
+2 sig version 1 hits 0 misses 1 exps 1\n\
+level 1 over 1 (1)=1\n\
+level 2 over 2 (1,1)=1\n\
+session 2\n\
+1 done 2\n\
+2 sig version 2 hits 0 misses 1 exps 2\n\
+level 1 over 1 (1)=2\n\
+level 2 over 2 (1,1)=4\n\
+3 sig version 1 hits 1 misses 0 exps 0\n\
+level 1 over 1 (1)=1\n\
+level 2 over 2 (1,1)=1\n\
+order 1,1,2,2,1,2,2\n\
+versions 2\n",
+    ),
+];
+
+#[test]
+fn sessions_take_their_steps_in_order(rt: HostRuntime) -> Result<(), Fail> {
+    for (script, order, answers) in ORDERED {
+        let run = run_over_memory(&rt, rt.alloc(), &["--order", order], script, &[], &[])?;
+        assert_eq!(rt; run.status, 0);
+        assert_eq!(rt; run.written.as_str(), answers);
+    }
+    Ok(())
+}
+
+#[test]
+fn orders_of_two_sessions(rt: HostRuntime) -> Result<(), Fail> {
+    let script = "shape 1 1\n\
+session 1\n\
+append a 0 1\n\
+sig 0 1 0\n\
+session 2\n\
+append b 0 1\n";
+    for (order, text) in [
+        ("1,1,3", "fault order place 3\n"),
+        ("1,1,1", "fault order place 4\n"),
+        ("1,1,1,1,2", "fault order place 4\n"),
+        ("none", "fault order place 1\n"),
+    ] {
+        let run = run_over_memory(&rt, rt.alloc(), &["--order", order], script, &[], &[])?;
+        assert_eq!(rt; run.status, 3, "in the order {order}");
+        assert_eq!(rt; run.written.as_str(), text);
+    }
+    let run = run_over_memory(
+        &rt,
+        rt.alloc(),
+        &["--order", "none"],
+        "shape 1 1\nsession 1\n",
+        &[],
+        &[],
+    )?;
+    assert_eq!(rt; run.status, 0);
+    assert_eq!(rt;
+        run.written.as_str(),
+        "shape 1 1\nsession 1\norder none\nversions 0\n"
+    );
+    Ok(())
+}
+
+#[test]
+fn threads_are_left_to_the_caller(rt: HostRuntime) -> Result<(), Fail> {
+    let bytes = Vec::from_slice(rt.alloc(), SCRIPT.as_bytes())?;
+    let mut source = MemorySource::new(bytes, 9, vec![in rt.alloc(); 1u64]?);
+    let mut sink = MemorySink::new(rt.alloc(), 4096, 7, vec![in rt.alloc(); 1u64]?)?;
+    let words = vec![in rt.alloc(); String::from_str(rt.alloc(), "--cache=5")?]?;
+    assert_eq!(rt;
+        rough_plain(rt.alloc(), &words, &mut source, &mut sink),
+        None
+    );
+    assert_eq!(rt; (source.faults(), sink.faults()), (0, 0));
     Ok(())
 }

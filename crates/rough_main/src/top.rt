@@ -1,17 +1,27 @@
 //! The top call.
-ghost use Rattle.std.specs.Prelude.{◌≡◌, ◌≢◌, ◌<◌, ◌≤◌, ◌+◌, ◌⊎◌, ◌↔◌, List, ℕ, Some, None, IsSome, Err, drop, map, length, string_bytes, IfOk, OnOk, OnErr, IsErrOf};
-ghost use Rattle.std.specs.Io.KnownBytes.{Appends, IsAtEnd, Keeps};
+ghost use Rattle.std.specs.Prelude.{◌≡◌, ◌⊎◌, ◌<◌, ◌≤◌, ◌+◌, ℕ, List, Some, None, Ok, true, false, map, drop, length, string_bytes, Result, IfOk, OnOk, IfSome, IfErr, IsErrOf, IsNone};
+ghost use Rattle.std.specs.Io.KnownBytes.{IsAtEnd};
 ghost use Rattle.rough_io.specs.Counts.{Rose};
-ghost use Rattle.rough_io.specs.Transfers.{AddsPrefix, TakesAtMost};
+ghost use Rattle.rough_io.specs.Transfers.{TakesAtMost};
 ghost use Rattle.command_line.specs.Wishes.{wish_of, HasCapacity};
-ghost use Rattle.script_reader.specs.Script.{most_bytes, parse};
+ghost use Rattle.command_line.specs.declared.wish.Wish.{Wish as TheWish};
+ghost use Rattle.script_reader.specs.declared.fault.ScriptFault.{ScriptFault as TheFault};
+ghost use Rattle.script_reader.specs.Script.{ScriptValue, most_bytes, parse};
 ghost use Rattle.session.specs.Logarithms.{LogarithmsExpand};
-ghost use Rattle.rough_main.specs.Due.{script_reply, due_reply, refusal_of, capacity_of, order_of, IsReply, IsAnswer};
+ghost use Rattle.session.specs.Versions.{VersionsNeverFall};
+ghost use Rattle.rough_main.specs.Due.{capacity_of, is_threaded, IsAnswer, IsLegalFor};
+ghost use Rattle.rough_main.specs.Calls.{Port, IsCall, write_failed, no_memory};
+ghost use Rattle.rough_main.specs.Made.{IsMade, IsParsed, IsSpelled};
 
-use crate::reply::{Reply, refusal, reply_to_refused, reply_to_script};
-use command_line::{Wish, read_words};
+use crate::reply::{
+    Parsed, Reply, refusal, reply_in_order, reply_on_threads, reply_to_refused, script_in,
+};
+use command_line::{Form, Wish, read_words};
 use rough_io::{ReceiveFault, Sink, Source, receive, send};
+use session::Gate;
 use std::alloc::Global;
+use std::sync::Wait;
+use std::thread::Threads;
 
 /// The most bytes of a script.
 const MOST_BYTES: usize = 4_194_304;
@@ -25,18 +35,13 @@ const WRITE_FAILED: u8 = 5;
 /// The status where memory was wanting.
 const NO_MEMORY: u8 = 6;
 
-/// The reply that is due to the bytes of a source.
-fn reply_to_source<S: Source>(
-    alloc: Global,
-    wish: &Wish,
-    source: &mut S,
-) -> Result<Reply, ReceiveFault>
-    requires built { refusal_of wish.now ≡ None }
-    requires capacity { HasCapacity wish.now }
-    ensures reply { (bytes : List ℕ) → S.left source.old ≡ Some bytes → IfOk result (λ reply. IsReply reply.status reply.text.items (script_reply (capacity_of wish.now) (order_of wish.now) (parse bytes))) }
+/// What the bytes of a source spell.
+fn read_source<S: Source>(alloc: Global, source: &mut S) -> Result<Parsed, ReceiveFault>
+    ensures spelled { IfOk result (λ p. (spelled : Result ScriptValue TheFault) × IsParsed spelled p) }
+    ensures parsed { (bytes : List ℕ) → S.left source.old ≡ Some bytes → IfOk result (IsParsed (parse bytes)) }
     ensures logarithms { (bytes : List ℕ) → S.left source.old ≡ Some bytes → OnOk result (LogarithmsExpand (parse bytes)) }
-    ensures status { IfOk result (λ reply. (reply.status ≡ 0) ⊎ (reply.status ≡ 3)) }
-    ensures whole { IfOk result (λ reply. reply.status ≡ 0 → IsAtEnd (S.left source.new)) }
+    ensures versions { (bytes : List ℕ) → S.left source.old ≡ Some bytes → OnOk result (VersionsNeverFall (parse bytes)) }
+    ensures whole { IfOk result (λ p. IsSpelled p → IsAtEnd (S.left source.new)) }
     ensures size { (bytes : List ℕ) → S.left source.old ≡ Some bytes → most_bytes < length bytes → OnOk result (S.left source.new ≡ Some (drop (most_bytes + 1) bytes)) }
     ensures taken { TakesAtMost (most_bytes + 1) (S.left source.old) (S.left source.new) }
     ensures failed { IsErrOf result ReceiveFault.Failed → Rose (S.faults source.old) (S.faults source.new) }
@@ -44,57 +49,123 @@ fn reply_to_source<S: Source>(
     ensures ok { OnOk result (S.faults source.new ≡ S.faults source.old) }
 {
     let bytes = receive(alloc, source, MOST_BYTES)?;
-    match reply_to_script(alloc, wish, &bytes) {
+    match script_in(alloc, &bytes) {
+        Ok(parsed) => Ok(parsed),
+        Err(_memory) => Err(ReceiveFault::Memory),
+    }
+}
+
+/// The reply to a wish that isn't for threads. The source isn't read where the wish is refused.
+fn reply_plain<S: Source>(alloc: Global, wish: &Wish, source: &mut S) -> Result<Reply, ReceiveFault>
+    requires capacity { HasCapacity wish.now }
+    requires plain { is_threaded wish.now ≡ false }
+    ensures { (order : List ℕ) → IsMade wish.now order result (record { told = S.left source.old; faults = S.faults source.old }) (record { told = S.left source.new; faults = S.faults source.new }) }
+{
+    if let Some(text) = refusal(wish) {
+        return match reply_to_refused(alloc, text) {
+            Ok(reply) => Ok(reply),
+            Err(_memory) => Err(ReceiveFault::Memory),
+        };
+    }
+    let Wish::Given {
+        order,
+        capacity,
+        ..
+    } = wish
+    else {
+        unreachable!();
+    };
+    let parsed = read_source(alloc, source)?;
+    match reply_in_order(alloc, parsed, *capacity, order.list()) {
         Ok(reply) => Ok(reply),
         Err(_memory) => Err(ReceiveFault::Memory),
     }
 }
 
-/// The reply that is due to these words and the bytes of the source, which isn't read where the words are refused.
-fn reply_to<S: Source>(
+/// The reply to a script that is read from the source, and whose sessions run on threads.
+fn reply_threaded<R: Threads + Wait + Sync, S: Source, G: Gate>(
+    rt: &R,
     alloc: Global,
-    words: &[String],
+    wish: &Wish,
     source: &mut S,
+    gate: &G,
 ) -> Result<Reply, ReceiveFault>
-    ensures reply { (bytes : List ℕ) → S.left source.old ≡ Some bytes → IfOk result (λ reply. IsReply reply.status reply.text.items (due_reply (map string_bytes words.now) bytes)) }
-    ensures logarithms { (bytes : List ℕ) → S.left source.old ≡ Some bytes → IfOk result (λ reply. reply.status ≡ 0 → LogarithmsExpand (parse bytes)) }
-    ensures status { IfOk result (λ reply. IsAnswer reply.status) }
-    ensures refused { IfOk result (λ reply. (reply.status ≡ 2) ↔ IsSome (refusal_of (wish_of (map string_bytes words.now)))) }
-    ensures whole { IfOk result (λ reply. reply.status ≡ 0 → IsAtEnd (S.left source.new)) }
-    ensures size { (bytes : List ℕ) → S.left source.old ≡ Some bytes → most_bytes < length bytes → IfOk result (λ reply. reply.status ≡ 3 → S.left source.new ≡ Some (drop (most_bytes + 1) bytes)) }
-    ensures unread { IsSome (refusal_of (wish_of (map string_bytes words.now))) → (result ≢ Err ReceiveFault.Failed) × Keeps (S.left source.old) (S.left source.new) }
-    ensures taken { TakesAtMost (most_bytes + 1) (S.left source.old) (S.left source.new) }
-    ensures failed { IsErrOf result ReceiveFault.Failed → Rose (S.faults source.old) (S.faults source.new) }
-    ensures memory { IsErrOf result ReceiveFault.Memory → S.faults source.new ≡ S.faults source.old }
-    ensures ok { OnOk result (S.faults source.new ≡ S.faults source.old) }
+    requires capacity { HasCapacity wish.now }
+    requires threaded { is_threaded wish.now ≡ true }
+    ensures { (order : List ℕ)
+        × ((bytes : List ℕ) → S.left source.old ≡ Some bytes → OnOk result (IsLegalFor (capacity_of wish.now) order (parse bytes)))
+        × IsMade wish.now order result (record { told = S.left source.old; faults = S.faults source.old }) (record { told = S.left source.new; faults = S.faults source.new }) }
 {
-    let Ok(wish) = read_words(alloc, words) else {
-        return Err(ReceiveFault::Memory);
+    let Wish::Threads { capacity, .. } = wish else {
+        unreachable!();
     };
-    match refusal(&wish) {
-        Some(text) => match reply_to_refused(alloc, text) {
-            Ok(reply) => Ok(reply),
-            Err(_memory) => Err(ReceiveFault::Memory),
-        },
-        None => reply_to_source(alloc, &wish, source),
+    let parsed = read_source(alloc, source)?;
+    match reply_on_threads(rt, alloc, parsed, *capacity, gate) {
+        Ok(reply) => Ok(reply),
+        Err(_memory) => Err(ReceiveFault::Memory),
     }
 }
 
-/// Writes a reply and answers its status, or that the sink failed.
-fn write_reply<O: Sink>(sink: &mut O, reply: &Reply) -> u8
-    requires { IsAnswer reply.now.status }
-    ensures status { (result ≡ reply.now.status) ⊎ (result ≡ WRITE_FAILED) }
-    ensures whole { IsAnswer result → (result ≡ reply.now.status) × Appends (O.written sink.old) (O.written sink.new) reply.now.text.items × (O.faults sink.new ≡ O.faults sink.old) }
-    ensures failed { result ≡ WRITE_FAILED → Rose (O.faults sink.old) (O.faults sink.new) × AddsPrefix reply.now.text.items (O.written sink.old) (O.written sink.new) }
+/// Whether the sessions run on threads.
+fn is_for_threads(wish: &Wish) -> bool
+    ensures { result ≡ is_threaded wish.now }
 {
+    matches!(
+        wish,
+        Wish::Threads {
+            form: Form::Text,
+            ..
+        }
+    )
+}
+
+/// Writes the reply that was made, and answers its status, or the status of what failed.
+fn write_reply<O: Sink>(made: Result<Reply, ReceiveFault>, sink: &mut O) -> u8
+    ensures replied { IsAnswer result ⊎ (result ≡ write_failed) → IfErr made (λ _. ⊥) }
+    ensures call { (wish : TheWish) → (order : List ℕ) → (source taken : Port) → IsMade wish order made source taken →
+        IsCall wish order result source taken (record { told = O.written sink.old; faults = O.faults sink.old }) (record { told = O.written sink.new; faults = O.faults sink.new }) }
+{
+    let reply = match made {
+        Ok(reply) => reply,
+        Err(ReceiveFault::Failed) => return READ_FAILED,
+        Err(ReceiveFault::Memory) => return NO_MEMORY,
+    };
     match send(sink, &reply.text) {
         Ok(()) => reply.status,
         Err(_failed) => WRITE_FAILED,
     }
 }
 
-/// Reads a script, runs it on this thread and writes its answers. The words are those of the command line, without
-/// the program's name. It always returns; the whole text is made before anything is written.
+/// Reads a script, runs it on this thread in the order that the words give, and writes its answers. The words are those of the command line,
+/// without the program's name. Where they ask for threads, nothing is read or written, and the answer is `None`; else it is the status that
+/// `rough` tells. It always returns.
+pub fn rough_plain<S: Source, O: Sink>(
+    alloc: Global,
+    words: &[String],
+    source: &mut S,
+    sink: &mut O,
+) -> Option<u8>
+    ensures none { IsNone result → (is_threaded (wish_of (map string_bytes words.now)) ≡ true) × (source.new ≡ source.old) × (sink.new ≡ sink.old) }
+    ensures threads { is_threaded (wish_of (map string_bytes words.now)) ≡ true → IsNone result ⊎ (result ≡ Some no_memory) }
+    ensures call { IfSome result (λ status. (order : List ℕ) → IsCall (wish_of (map string_bytes words.now)) order status
+        (record { told = S.left source.old; faults = S.faults source.old }) (record { told = S.left source.new; faults = S.faults source.new })
+        (record { told = O.written sink.old; faults = O.faults sink.old }) (record { told = O.written sink.new; faults = O.faults sink.new })) }
+{
+    let Ok(wish) = read_words(alloc, words) else {
+        return Some(NO_MEMORY);
+    };
+    if is_for_threads(&wish) {
+        return None;
+    }
+    Some(write_reply(reply_plain(alloc, &wish, source), sink))
+}
+
+/// Reads a script, runs it and writes its answers. The words are those of the command line, without the program's name. Where they give an
+/// order, the script runs on this thread and in that order, as `rough_plain` says. Else its sessions run on threads, and the call returns
+/// if they do: what is written is what one thread writes that takes the steps in the printed order, which is legal.
+///
+/// The gate is called by each session between its looks and their solutions, without the turn. The whole text is made before anything
+/// is written.
 ///
 /// | Status | Comes | Written |
 /// |---|---|---|
@@ -104,44 +175,27 @@ fn write_reply<O: Sink>(sink: &mut O, reply: &Reply) -> u8
 /// | 4 | only where the source's count of faults rose | nothing |
 /// | 5 | only where the sink's count of faults rose | a prefix of the text of status 0, 2 or 3 |
 /// | 6 | want of memory | nothing |
-pub fn rough_plain<S: Source, O: Sink>(
+pub fn rough<R: Threads + Wait + Sync, S: Source, O: Sink, G: Gate>(
+    rt: &R,
     alloc: Global,
     words: &[String],
     source: &mut S,
     sink: &mut O,
+    gate: &G,
 ) -> u8
-    ensures statuses { IsAnswer result ⊎ (result ≡ READ_FAILED) ⊎ (result ≡ WRITE_FAILED) ⊎ (result ≡ NO_MEMORY) }
-
-    // From the bytes that the source had left to the bytes that the sink was given.
-    ensures answered { IsAnswer result → (bytes : List ℕ) → S.left source.old ≡ Some bytes →
-        let due = due_reply (map string_bytes words.now) bytes in (result ≡ due.status) × Appends (O.written sink.old) (O.written sink.new) due.text }
-    // The Hall coordinates that are in that text, expanded by brackets, are exactly the logarithms.
-    ensures logarithms { result ≡ 0 → (bytes : List ℕ) → S.left source.old ≡ Some bytes → LogarithmsExpand (parse bytes) }
-    ensures faultless { IsAnswer result → (S.faults source.new ≡ S.faults source.old) × (O.faults sink.new ≡ O.faults sink.old) }
-
-    // Without a fault the due reply is written, or memory is wanting.
-    ensures complete { ¬ (Rose (S.faults source.old) (S.faults source.new)) → ¬ (Rose (O.faults sink.old) (O.faults sink.new)) →
-        (bytes : List ℕ) → S.left source.old ≡ Some bytes → (result ≡ (due_reply (map string_bytes words.now) bytes).status) ⊎ (result ≡ NO_MEMORY) }
-
-    // What was read.
-    ensures whole { result ≡ 0 → IsAtEnd (S.left source.new) }
-    ensures size { (bytes : List ℕ) → S.left source.old ≡ Some bytes → most_bytes < length bytes → result ≡ 3 → S.left source.new ≡ Some (drop (most_bytes + 1) bytes) }
-    ensures taken { TakesAtMost (most_bytes + 1) (S.left source.old) (S.left source.new) }
-
-    // Words that are refused are answered as such, whatever the source has.
-    ensures words { result ≡ 2 → IsSome (refusal_of (wish_of (map string_bytes words.now))) }
-    ensures unread { IsSome (refusal_of (wish_of (map string_bytes words.now))) →
-        ((result ≡ 2) ⊎ (result ≡ WRITE_FAILED) ⊎ (result ≡ NO_MEMORY)) × Keeps (S.left source.old) (S.left source.new) }
-
-    // Faults, each only with its cause.
-    ensures source_failed { result ≡ READ_FAILED → Rose (S.faults source.old) (S.faults source.new) × Keeps (O.written sink.old) (O.written sink.new) × (O.faults sink.new ≡ O.faults sink.old) }
-    ensures sink_failed { result ≡ WRITE_FAILED → (S.faults source.new ≡ S.faults source.old) × Rose (O.faults sink.old) (O.faults sink.new) ×
-        ((bytes : List ℕ) → S.left source.old ≡ Some bytes → AddsPrefix (due_reply (map string_bytes words.now) bytes).text (O.written sink.old) (O.written sink.new)) }
-    ensures no_memory { result ≡ NO_MEMORY → Keeps (O.written sink.old) (O.written sink.new) × (S.faults source.new ≡ S.faults source.old) × (O.faults sink.new ≡ O.faults sink.old) }
+    ensures call { (order : List ℕ)
+        -- the order that threads take is legal
+        × (is_threaded (wish_of (map string_bytes words.now)) ≡ true → IsAnswer result ⊎ (result ≡ write_failed) → (bytes : List ℕ) → S.left source.old ≡ Some bytes →
+        IsLegalFor (capacity_of (wish_of (map string_bytes words.now))) order (parse bytes))
+        × IsCall (wish_of (map string_bytes words.now)) order result
+        (record { told = S.left source.old; faults = S.faults source.old }) (record { told = S.left source.new; faults = S.faults source.new })
+        (record { told = O.written sink.old; faults = O.faults sink.old }) (record { told = O.written sink.new; faults = O.faults sink.new }) }
 {
-    match reply_to(alloc, words, source) {
-        Ok(reply) => write_reply(sink, &reply),
-        Err(ReceiveFault::Failed) => READ_FAILED,
-        Err(ReceiveFault::Memory) => NO_MEMORY,
+    if let Some(status) = rough_plain(alloc, words, source, sink) {
+        return status;
     }
+    let Ok(wish) = read_words(alloc, words) else {
+        return NO_MEMORY;
+    };
+    write_reply(reply_threaded(rt, alloc, &wish, source, gate), sink)
 }

@@ -1,8 +1,8 @@
-use Rattle.std.proofs.Common.{◌≡◌, sym, ap, subst, Option, Some, IfOk, ℕ}
+use Rattle.std.proofs.Common.{◌≡◌, sym, ap, subst, Option, IfOk, ℕ}
 use Rattle.session.specs.Play.{due_outcome, illegal_place}
 use Rattle.rough_main.specs.declared.reply.Reply.{Reply}
 use Rattle.rough_main.specs.Due.{DueReply, IsReply, answered, unless_illegal}
-use Rattle.rough_main.proofs.reply.in_order.Goals as goal
+use Rattle.rough_main.proofs.reply.reply_counted.Goals as goal
 
 pub returns-in-Ok : goal.returns-in-Ok
 returns-in-Ok g c =

@@ -1,0 +1,22 @@
+use Rattle.std.proofs.Common.{◌≡◌, ℕ, List, Ok, Result, subst}
+use Rattle.std.specs.Io.KnownBytes.{Appends}
+use Rattle.rough_io.specs.Transfers.{AddsPrefix}
+use Rattle.rough_io.specs.declared.source.ReceiveFault.{ReceiveFault}
+use Rattle.rough_main.specs.declared.reply.Reply.{Reply}
+use Rattle.rough_main.specs.Made.{IsMade}
+use Rattle.rough_main.proofs.CallLaws.{call-written, call-write_failed}
+use Rattle.rough_main.proofs.top.write_reply.Goals as goal
+
+pub returns-in-Ok-send-clause-call : goal.returns-in-Ok-send-clause-call
+returns-in-Ok-send-clause-call g c = λ wish order source taken made.
+    call-written wish order c.in-Ok.reply source taken (record { told = g.O.Sink.written c.args.sink.now; faults = g.O.Sink.faults c.args.sink.now })
+    (record { told = g.O.Sink.written c.send.new.sink; faults = g.O.Sink.faults c.send.new.sink })
+    (subst (λ (m : Result Reply ReceiveFault). IsMade wish order m source taken) c.in-Ok.is made)
+    (subst (λ (xs : List ℕ). Appends (g.O.Sink.written c.args.sink.now) (g.O.Sink.written c.send.new.sink) xs) c.deref.ensures.value c.in-Ok-send.ensures.all) c.in-Ok-send.ensures.cause
+
+pub returns-clause-call : goal.returns-clause-call
+returns-clause-call g c = λ wish order source taken made.
+    call-write_failed wish order c.in-Ok.reply source taken (record { told = g.O.Sink.written c.args.sink.now; faults = g.O.Sink.faults c.args.sink.now })
+    (record { told = g.O.Sink.written c.send.new.sink; faults = g.O.Sink.faults c.send.new.sink })
+    (subst (λ (m : Result Reply ReceiveFault). IsMade wish order m source taken) c.in-Ok.is made)
+    (subst (λ (xs : List ℕ). AddsPrefix xs (g.O.Sink.written c.args.sink.now) (g.O.Sink.written c.send.new.sink)) c.deref.ensures.value c.in-Err.ensures.prefix) c.in-Err.ensures.cause
