@@ -30,7 +30,7 @@ fn answers_to<R: Threads + Wait + Sync, G: Gate>(
 
 /// The entry of row i at a letter that steps by this much.
 fn entry(i: u64, step: u64) -> i64 {
-    (step * i % 2001) as i64 - 1000
+    (i.wrapping_mul(step) % 2001) as i64 - 1000
 }
 
 /// The commands of one of three sessions, which share 2,000 rows and 300 queries.
