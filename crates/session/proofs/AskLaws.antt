@@ -1,8 +1,7 @@
 -- The answer to a look of the book, and the solution where it is to be settled.
-use Rattle.std.proofs.Common.{◌≡◌, ◌∙◌, ℕ, ◌+◌, ◌≤◌, refl, sym, ap, subst, arith, true, List, [], ◌∷◌, ◌++◌, Option, Some, None, is_some}
+use Rattle.std.proofs.Common.{◌≡◌, ◌∙◌, ℕ, refl, sym, ap, subst, true, [], ◌∷◌, Option, Some, None, is_some}
 use Rattle.std.specs.Prelude.{sum_by, unwrap_or}
 use Rattle.definitions.specs.Words.{Extent}
-use Rattle.definitions.specs.Rows.{RowValue, moves_of}
 use Rattle.solve.specs.Plans as plans
 use Rattle.solve.specs.Plans.{PlansStand, all_missed}
 use Rattle.solve.specs.Works.{WorkValue}
@@ -15,22 +14,21 @@ use Rattle.book.specs.declared.step.LookReply.{LookReply}
 use Rattle.book.specs.declared.step.LookReply.TheVariants as replies
 use Rattle.book.specs.Walks.{all_misses, exps_of}
 use Rattle.book.specs.Plans.{IsSettlement}
-use Rattle.book.specs.Play.{State, Looking, PendingLook, pending_of, pending_look, looked_version, looked_rows, look_refusal, look_walk, look_reply, found, after_found, after_looking, unless_refused}
+use Rattle.book.specs.Play.{State, Looking, PendingLook, pending_of, pending_look, looked_version, looked_rows, look_refusal, look_walk, found, after_found, after_looking, unless_refused}
 use Rattle.book.specs.declared.look.Look.{Look}
 use Rattle.book.specs.declared.look.Look.TheVariants.{Work, NoVersion, Pair, Level, Overflow}
-use Rattle.book.specs.Looks.{IsWorkOf, IsLook, look_visits}
+use Rattle.book.specs.Looks.{IsWorkOf, IsLook}
 use Rattle.book.specs.Books.{BookValue, IsReady, state_of, log_of, with_request}
 use Rattle.book.proofs.MissLaws.{missed-are, exps-are}
 use Rattle.book.proofs.PlanLaws.{settled-by}
 use Rattle.book.proofs.StateLaws.{state-push}
-use Rattle.session.specs.declared.answer.Answer.{Answer}
 use Rattle.session.specs.declared.answer.Answer.TheVariants as answers
 use Rattle.session.specs.declared.look.Looked.{Looked}
 use Rattle.session.specs.Play.{Due, query_for, valued, unless, looked}
 use Rattle.session.specs.Answers.{Shows}
 use Rattle.session.specs.Looks.{IsLookedFor}
 use Rattle.session.specs.Runs.{IsSolvedFor, exps_unless, exps_for}
-use Rattle.session.proofs.PlaceLaws.{pending-put, solved-none}
+use Rattle.session.proofs.PlaceLaws.{pending-put}
 
 -- what is missed is pending with its solution, if anything is
 solved-for : (log : LogValue) (v : ℕ) (nodes : _) (solved : Solved) (kept : Option Solved) → IsSettlement log.extent log.edits v nodes solved.nodes.items
@@ -38,17 +36,6 @@ solved-for : (log : LogValue) (v : ℕ) (nodes : _) (solved : Solved) (kept : Op
 solved-for log v [] solved kept is beside = tt
 solved-for log v (node ∷ nodes) solved kept is beside =
     subst (IsSolvedFor log (Some (record { version = v; missed = node ∷ nodes }))) (sym (beside refl)) is
-
--- the answer to a look that isn't refused is of the kind that it asks for
-shows-answered : (extent : Extent) (state : State) (q : Query) (reply : LookReply) (answer : Answer) → look_refusal state.edits q ≡ None → reply ≡ look_reply state q
-    → Shows extent answer (valued extent q.kind reply (looked_rows state.edits q)) → Shows extent answer (looked extent state q)
-shows-answered extent state q reply answer none is shows =
-    let rows : List RowValue = looked_rows state.edits q in
-    let reply_is : reply ≡ found state q = is ∙ ap (λ (refusal : Option LookReply). unwrap_or refusal (found state q)) none in
-    let due : valued extent q.kind reply rows ≡ looked extent state q =
-    ap (λ (r : LookReply). valued extent q.kind r rows) reply_is
-    ∙ sym (ap (λ (refusal : Option LookReply). unless refusal (valued extent q.kind (found state q) rows)) none) in
-    subst (Shows extent answer) due shows
 
 -- ---- the book after a look
 module _ (session : ℕ) (q : Query) (old new : BookValue) (book : new ≡ with_request (Looking session q) old) where
@@ -113,11 +100,6 @@ module _ (extent : Extent) (session : ℕ) (ask : Ask) (old : BookValue) (work :
 
   abbrev new : BookValue
   new = with_request (Looking session asked) old
-
-  pub asked-shows : (reply : LookReply) (answer : Answer) → reply ≡ look_reply (state_of old) asked
-      → ((rows : List RowValue) → PlansStand work.plans (moves_of rows) → Shows extent answer (valued extent ask.kind reply rows)) → Shows extent answer (looked extent (state_of old) asked)
-  asked-shows reply answer reply_is shows =
-      shows-answered extent (state_of old) asked reply answer is.unrefused_is reply_is (shows (looked_rows (state_of old).edits asked) is.work_is.whole)
 
   pub asked-solved : (solved : Solved) (kept : Option Solved) → AreSolved extent (all_missed work.plans) solved.nodes.items
       → (is_some (pending_of session (state_of new).pending) ≡ true → kept ≡ Some solved) → IsSolvedFor (log_of new) (pending_of session (state_of new).pending) kept

@@ -2,7 +2,6 @@
 use Rattle.std.proofs.Common.{◌≡◌, ◌∙◌, ℕ, ap, List, [], length, None}
 use Rattle.std.specs.Prelude.{All, false}
 use mathlib.Core.List.{IsPrefix}
-use Rattle.definitions.specs.Words.{Extent}
 use Rattle.turnstile.specs.declared.view.PassView.{PassView}
 use Rattle.turnstile.specs.Entries.{of_label}
 use Rattle.script_reader.specs.Script.{ScriptValue, IsScript}
@@ -21,7 +20,6 @@ use Rattle.session.proofs.TogetherLaws.{all-told, all-legal}
 -- the book that comes out goes on from what the first pass knows, into which those of all sessions were joined
 pub record IsEnd (script : ScriptValue) (first : BookValue) (head : PassView Step) (book : BookValue) (transcripts : List (List Answer)) : Type 0 where
   pub is_script : IsScript script
-  pub extent : first.extent ≡ script.extent
   pub sessions : first.sessions ≡ length script.sessions
   pub frame : head.frame ≡ frame_of first
   pub is_book : IsBook book
@@ -39,9 +37,6 @@ module _ (script : ScriptValue) (first : BookValue) (head : PassView Step) (book
   pub end-capacity : book.capacity ≡ first.capacity
   end-capacity = ap (λ (f : List ℕ). (book_of f []).capacity) same-frame
 
-  end-extent : book.extent ≡ script.extent
-  end-extent = ap (λ (f : List ℕ). (book_of f []).extent) same-frame ∙ is.extent
-
   end-sessions : book.sessions ≡ length script.sessions
   end-sessions = ap (λ (f : List ℕ). (book_of f []).sessions) same-frame ∙ is.sessions
 
@@ -49,7 +44,7 @@ module _ (script : ScriptValue) (first : BookValue) (head : PassView Step) (book
   each = all-served script is.is_script head book is.is_book is.unspent is.framed is.seen is.own transcripts is.count is.joined
 
   pub end-told : IsTold script book transcripts
-  end-told = all-told script book is.is_book transcripts is.count end-extent end-sessions each
+  end-told = all-told script book is.is_book transcripts is.count end-sessions each
 
   pub end-legal : illegal_place book.capacity script (order_of book) ≡ None
-  end-legal = all-legal script book is.is_book transcripts is.count end-extent end-sessions each
+  end-legal = all-legal script book is.is_book transcripts is.count end-sessions each

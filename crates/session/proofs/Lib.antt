@@ -3,6 +3,7 @@ mod AskLaws
 mod BoundLaws
 mod EndLaws
 mod ExpansionLaws
+pub mod FrameLaws
 mod HoldLaws
 mod MomentLaws
 mod NextLaws

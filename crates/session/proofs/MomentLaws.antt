@@ -14,6 +14,7 @@ use Rattle.book.specs.Books.{BookValue, count_of, state_of, with_request}
 use Rattle.book.proofs.StateLaws.{requests-push}
 use Rattle.session.specs.Moments.{Moment, own_moment, moments, moments_of}
 use Rattle.session.specs.Holds.{book_of}
+use Rattle.session.proofs.FrameLaws.{book-again}
 
 pub asker-step : (step : Step) → asker (request_of step) ≡ session_of step
 asker-step (Edited session edit reply) = refl
@@ -48,15 +49,6 @@ moments-others capacity session state (step ∷ steps) none =
           ∙ moments-others capacity session next steps none-later)
     ]
 
--- a frame makes the book but for its steps
-of_frame : (frame : List ℕ) (history : List Step) → book_of frame history ≡ record (book_of frame []) { history = history }
-of_frame [] history = refl
-of_frame (width ∷ []) history = refl
-of_frame (width ∷ depth ∷ []) history = refl
-of_frame (width ∷ depth ∷ capacity ∷ []) history = refl
-of_frame (width ∷ depth ∷ capacity ∷ sessions ∷ []) history = refl
-of_frame (width ∷ depth ∷ capacity ∷ sessions ∷ more ∷ frame) history = refl
-
 -- more steps of others add no moment
 moments-longer : (session : ℕ) (book : BookValue) (old more : List Step) → of_label session_of session (old ++ more) ≡ of_label session_of session old
     → moments_of (record book { history = old ++ more }) session ≡ moments_of (record book { history = old }) session
@@ -78,10 +70,10 @@ pub moments-later : (session : ℕ) (frame : List ℕ) (old new : List Step) →
 moments-later session frame old new begins same =
     let moments_in : BookValue → List Moment = λ book. moments_of book session in
     let longer : of_label session_of session (old ++ begins.0) ≡ of_label session_of session old = ap (of_label session_of session) begins.1 ∙ same in
-    ap moments_in (of_frame frame new)
-    ∙ ap (λ (history : List Step). moments_in (record (book_of frame []) { history = history })) (sym begins.1)
-    ∙ moments-longer session (book_of frame []) old begins.0 longer
-    ∙ sym (ap moments_in (of_frame frame old))
+    ap moments_in (book-again frame old new)
+    ∙ ap (λ (history : List Step). moments_in (record (book_of frame old) { history = history })) (sym begins.1)
+    ∙ moments-longer session (book_of frame old) old begins.0 longer
+    ∙ sym (ap moments_in (book-again frame old old))
 
 -- a step of the session is its last moment
 pub moments-step : (session : ℕ) (book : BookValue) (request : Request) → asker request ≡ session

@@ -1,13 +1,12 @@
 -- What the transcripts of a run show.
-use Rattle.std.proofs.Common.{◌≡◌, ◌∙◌, ℕ, zero, suc, ◌+◌, ◌-◌, ◌<◌, ◌≤◌, List, [], ◌∷◌, length, get_or, sym, ap, subst, arith}
+use Rattle.std.proofs.Common.{◌≡◌, ◌∙◌, ℕ, suc, ◌+◌, ◌-◌, ◌<◌, List, [], ◌∷◌, length, get_or, sym, subst, arith}
 use Rattle.std.specs.Prelude.{All}
 use Rattle.std.proofs.lemmas.List.Elements.{All-from_get_or}
 use Rattle.definitions.specs.Words.{Extent}
 use Rattle.script_reader.specs.Script.{ScriptValue}
-use Rattle.book.specs.Books.{IsSession}
 use Rattle.session.specs.declared.answer.Answer.{Answer}
 use Rattle.session.specs.declared.run.Run.{Run as TheRun}
-use Rattle.session.specs.Play.{Due, of_session}
+use Rattle.session.specs.Play.{Due}
 use Rattle.session.specs.Answers.{ShowsEach, ShowsAll, HasMembers}
 use Rattle.session.specs.Runs.{IsRun, IsAt, IsTold, run_of}
 

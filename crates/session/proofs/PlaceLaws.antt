@@ -1,5 +1,5 @@
 -- A session's place among the pending looks of a book, and beside it among the solutions.
-use Rattle.std.proofs.Common.{◌≡◌, ℕ, ◌-◌, ◌<◌, sym, subst, arith, length, Option, Some, None}
+use Rattle.std.proofs.Common.{◌≡◌, ℕ, ◌-◌, ◌<◌, sym, subst, arith, length, Option, None}
 use Rattle.std.proofs.lemmas.List.{get_or-set_same}
 use Rattle.solve.specs.declared.solution.Solved.{Solved}
 use Rattle.versions.specs.Versions.{LogValue}

@@ -1,11 +1,10 @@
 -- How a session goes on: after an edit, a look, and a look that is settled.
-use Rattle.std.proofs.Common.{◌≡◌, ◌∙◌, ℕ, zero, suc, ◌+◌, ◌-◌, ◌*◌, ◌<◌, ◌≤◌, refl, sym, ap, subst, arith, List, [], ◌∷◌, ◌++◌, length, drop}
-use Rattle.std.specs.Prelude.{All, nat_eq, ◌==◌, replicate, slice_index_or, Option, Some, None}
+use Rattle.std.proofs.Common.{◌≡◌, ◌∙◌, ℕ, suc, ◌+◌, ◌-◌, ◌*◌, ◌<◌, ◌≤◌, refl, sym, ap, subst, arith, List, [], ◌∷◌, ◌++◌, length, drop}
+use Rattle.std.specs.Prelude.{All, Option, Some, None}
 use Rattle.std.proofs.Math.Seq.{drop-drop}
-use Rattle.std.proofs.lemmas.Bool.Decides.{nat_tests}
 use Rattle.std.proofs.lemmas.List.{append-nil, length-append, length-drop}
 use Rattle.std.proofs.lemmas.List.Concat.{flat_map-append}
-use Rattle.std.proofs.lemmas.List.Elements.{All-nil, All-cons, All-append, filter_agree}
+use Rattle.std.proofs.lemmas.List.Elements.{All-nil, All-cons, All-append}
 use Rattle.std.proofs.lemmas.List.Sums.{sum_by-cons, sum_by_push, get_or-le-sum_by}
 use Rattle.turnstile.specs.declared.view.PassView.{PassView}
 use Rattle.turnstile.specs.Entries.{of_label}
@@ -19,7 +18,7 @@ use Rattle.script_reader.specs.declared.command.Command.{Command}
 use Rattle.script_reader.specs.declared.command.Command.TheVariants as commands
 use Rattle.script_reader.specs.Script.{ScriptValue, IsScript}
 use Rattle.book.specs.declared.step.Step.{Step}
-use Rattle.book.specs.Play.{State, Request, Editing, Looking, Settling, PendingLook, after, opening, pending_of, session_of, step_of}
+use Rattle.book.specs.Play.{State, Request, Editing, Looking, Settling, PendingLook, after, pending_of, session_of, step_of}
 use Rattle.book.specs.Seen.{asker}
 use Rattle.book.specs.Books.{BookValue, IsSession, count_of, state_of, with_request}
 use Rattle.book.proofs.StateLaws.{state-push}
@@ -30,46 +29,14 @@ use Rattle.session.specs.Answers.{Shows, ShowsEach, HasMembers}
 use Rattle.session.specs.Runs.{units_of, takes}
 use Rattle.session.specs.Moments.{Moment, moments_of, AreNext, taken_by, dues_of, units_by}
 use Rattle.session.specs.Holds.{book_of, seen_book, pending_in, with_step, CanStep, Adds}
-use Rattle.session.specs.Serving.{IsServing, IsNextCommand, IsOpening}
+use Rattle.session.specs.Serving.{IsServing, IsNextCommand}
+use Rattle.session.proofs.FrameLaws.{book-extent, book-sessions, book-history, book-push}
 use Rattle.session.proofs.MomentLaws.{moments-later, moments-step, moments-count}
 use Rattle.session.proofs.PlaceLaws.{pending-put}
 use Rattle.session.proofs.RunLaws.{shows-append}
-use Rattle.session.proofs.TakenLaws.{taken-ready, taken-pending}
-
--- ---- frames
--- the extent and the number of sessions are those of the frame, and the history is what it is made of
-same-extent : (frame : List ℕ) (old new : List Step) → (book_of frame new).extent ≡ (book_of frame old).extent
-same-extent (width ∷ depth ∷ capacity ∷ sessions ∷ []) old new = refl
-same-extent frame old new = refl
-
-same-sessions : (frame : List ℕ) (old new : List Step) → (book_of frame new).sessions ≡ (book_of frame old).sessions
-same-sessions (width ∷ depth ∷ capacity ∷ sessions ∷ []) old new = refl
-same-sessions frame old new = refl
-
-history-of : (frame : List ℕ) (history : List Step) → (book_of frame history).history ≡ history
-history-of (width ∷ depth ∷ capacity ∷ sessions ∷ []) history = refl
-history-of frame history = refl
-
--- a step more in the history is a step more of the book
-book-push : (frame : List ℕ) (history : List Step) (request : Request)
-    → book_of frame (history ++ step_of (state_of (book_of frame history)) request ∷ []) ≡ with_request request (book_of frame history)
-book-push (width ∷ depth ∷ capacity ∷ sessions ∷ []) history request = refl
-book-push frame history request = refl
-
-state-first : (frame : List ℕ) → state_of (book_of frame []) ≡ opening (book_of frame []).sessions
-state-first (width ∷ depth ∷ capacity ∷ sessions ∷ []) = refl
-state-first frame = refl
-
-moments-first : (frame : List ℕ) (session : ℕ) → moments_of (book_of frame []) session ≡ []
-moments-first (width ∷ depth ∷ capacity ∷ sessions ∷ []) session = refl
-moments-first frame session = refl
+use Rattle.session.proofs.TakenLaws.{count-own, taken-ready, taken-pending}
 
 -- ---- lists
-same-in : (look : Option PendingLook) (sessions at : ℕ) → slice_index_or (replicate sessions look) at look ≡ look
-same-in look zero at = refl
-same-in look (suc sessions) zero = refl
-same-in look (suc sessions) (suc at) = same-in look sessions at
-
 next-append : (extent : Extent) (session : ℕ) (left : List Command) (ms : List Moment) (moment : Moment) → AreNext extent session left ms
     → next_of extent session (pending_of session moment.state.pending) (drop (taken_by ms) left) ≡ Some moment.request → AreNext extent session left (ms ++ moment ∷ [])
 next-append extent session left [] moment are next = (next, tt)
@@ -90,10 +57,6 @@ step-by : (state : State) (request : Request) → session_of (step_of state requ
 step-by state (Editing session edit) = refl
 step-by state (Looking session q) = refl
 step-by state (Settling session) = refl
-
-count-own : (session : ℕ) (history : List Step) → length (of_label session_of session history) ≡ count_of session history
-count-own session history =
-    ap length (filter_agree (λ (s : Step). session_of s == session) (λ (s : Step). nat_eq session (session_of s)) (λ s. grind (arith, nat_tests)) history)
 
 -- ---- one hold
 pub adds-book : (v w : PassView Step) (history : List Step) (request : Request) → Adds v w history request → seen_book w ≡ with_request request (book_of v.frame history)
@@ -173,8 +136,8 @@ module _ (script : ScriptValue) (v w : PassView Step) (taken : ℕ) (answered : 
       (record {
         session = has.session;
         own = of_label_same session_of v.label history step (step-by met request ∙ of) ∙ ap (λ (own : List Step). own ++ step ∷ []) adds.taken.own;
-        extent = same-extent v.frame v.seen (history ++ step ∷ []) ∙ has.extent;
-        sessions = same-sessions v.frame v.seen (history ++ step ∷ []) ∙ has.sessions;
+        extent = book-extent v.frame v.seen (history ++ step ∷ []) ∙ has.extent;
+        sessions = book-sessions v.frame v.seen (history ++ step ∷ []) ∙ has.sessions;
         next = subst (AreNext script.extent v.label all_commands) (sym moments_are) (next-append script.extent v.label all_commands before moment has.next asked);
         taken_is = ap taken_by moments_are ∙ sum_by_push (λ (m : Moment). takes m.request) before moment ∙ ap (λ (n : ℕ). n + takes request) has.taken_is;
         shows =
@@ -182,40 +145,6 @@ module _ (script : ScriptValue) (v w : PassView Step) (taken : ℕ) (answered : 
             (shows-append script.extent answered more (dues_of script.extent before) (answers_to script.extent met request) has.shows shows);
         members = All-append (HasMembers script.extent) answered more has.members members;
       })
-
--- ---- the first step
-module _ (script : ScriptValue) (v : PassView Step) (opening : IsOpening script v) where
-  no-moments : moments_of (seen_book v) v.label ≡ []
-  no-moments = ap (λ (seen : List Step). moments_of (book_of v.frame seen) v.label) opening.seen ∙ moments-first v.frame v.label
-
-  none-pending : pending_in v ≡ None
-  none-pending =
-      ap (λ (seen : List Step). pending_of v.label (state_of (book_of v.frame seen)).pending) opening.seen
-      ∙ ap (λ (s : State). pending_of v.label s.pending) (state-first v.frame)
-      ∙ same-in None (book_of v.frame []).sessions (v.label - 1)
-
--- before the first step nothing was taken
-pub serving-first : (script : ScriptValue) (v : PassView Step) → IsOpening script v → IsServing script v 0 []
-serving-first script v opening =
-    let none : moments_of (seen_book v) v.label ≡ [] = no-moments script v opening in
-    record {
-      session = opening.session;
-      own = ap (of_label session_of v.label) opening.seen ∙ sym opening.own;
-      served =
-          record {
-            extent = opening.extent;
-            sessions = opening.sessions;
-            free = none-pending script v opening;
-            next = subst (AreNext script.extent v.label (of_session v.label script.sessions)) (sym none) tt;
-            taken_is = ap taken_by none;
-            shows = subst (λ (ms : List Moment). ShowsEach script.extent [] (dues_of script.extent ms)) (sym none) tt;
-            members = All-nil (HasMembers script.extent);
-            steps = omega (arith, ap length none);
-          };
-    }
-
-pub no-units : (script : ScriptValue) (v : PassView Step) → IsOpening script v → units_by (moments_of (seen_book v) v.label) ≡ 0
-no-units script v opening = ap units_by (no-moments script v opening)
 
 -- ---- the next command
 module _ (script : ScriptValue) (v : PassView Step) (taken : ℕ) (answered : List Answer) (serving : IsServing script v taken answered) where
@@ -228,7 +157,7 @@ module _ (script : ScriptValue) (v : PassView Step) (taken : ℕ) (answered : Li
   own-most : length v.own ≤ 2 * taken
   own-most =
       let count : length v.own ≡ length (moments_of (seen_book v) v.label) =
-      ap length (sym serving.own) ∙ count-own v.label v.seen ∙ ap (count_of v.label) (sym (history-of v.frame v.seen)) ∙ sym (moments-count (seen_book v) v.label) in
+      ap length (sym serving.own) ∙ count-own v.label v.seen ∙ ap (count_of v.label) (sym (book-history v.frame v.seen)) ∙ sym (moments-count (seen_book v) v.label) in
       omega (arith, count, serving.served.steps)
 
   own-few : IsScript script → (command : Command) → IsNextCommand script v.label taken command → length v.own < 2 * 65536

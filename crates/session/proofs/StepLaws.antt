@@ -1,20 +1,18 @@
 -- What a step leaves of a run.
-use Rattle.std.proofs.Common.{◌≡◌, ◌∙◌, ℕ, ◌+◌, ◌-◌, ◌<◌, ◌≤◌, refl, sym, ap, subst, arith, List, [], ◌∷◌, ◌++◌, length, Option, Some, None, map, set, get_or}
-use Rattle.std.specs.Prelude.{All}
+use Rattle.std.proofs.Common.{◌≡◌, ◌∙◌, ℕ, ◌+◌, ◌-◌, ◌<◌, sym, ap, subst, arith, List, [], ◌∷◌, ◌++◌, length, Option, None, set, get_or}
 use Rattle.std.proofs.lemmas.List.{set-get_or, get_or-set_same, get_or_read, append-nil}
 use Rattle.std.proofs.lemmas.List.Elements.{All-nil, All-cons}
 use Rattle.definitions.specs.Words.{Extent}
 use Rattle.solve.specs.declared.solution.Solved.{Solved}
-use Rattle.versions.specs.Versions.{LogValue}
 use Rattle.versions.specs.declared.edit.Edit.{Edit}
-use Rattle.book.specs.Play.{State, Request, Editing, Looking, Settling, PendingLook, pending_of, after}
-use Rattle.book.specs.Books.{BookValue, IsReady, IsFree, IsSettledBy, IsSession, state_of, log_of, with_request}
+use Rattle.book.specs.Play.{State, Request, Editing, Settling, pending_of, after}
+use Rattle.book.specs.Books.{BookValue, IsReady, IsFree, state_of, log_of, with_request}
 use Rattle.book.proofs.StateLaws.{state-push}
 use Rattle.session.specs.declared.answer.Answer.{Answer}
 use Rattle.session.specs.declared.run.Run.{Run as TheRun}
 use Rattle.session.specs.Play.{of_session, answers_to}
 use Rattle.session.specs.Answers.{ShowsEach, HasMembers}
-use Rattle.session.specs.Runs.{IsSolvedFor, takes, IsAfter, HasPlaces, IsPendingSolved}
+use Rattle.session.specs.Runs.{IsSolvedFor, takes, IsAfter, HasPlaces}
 use Rattle.session.proofs.PlaceLaws.{pending-put, solved-none}
 
 -- ---- settles

@@ -1,11 +1,10 @@
 -- What a session finds when it takes the book again.
-use Rattle.std.proofs.Common.{◌≡◌, ◌∙◌, ℕ, zero, suc, ◌+◌, ◌-◌, ◌*◌, ◌≤◌, ◌≢◌, refl, sym, ap, subst, arith, add-one, Bool, true, false, cond, List, [], ◌∷◌, ◌++◌, length, drop}
-use Rattle.std.specs.Prelude.{All, ◌<◌, ◌^◌, ◌==◌, map, filter, nat_eq, nat_le, Option, Some, None}
+use Rattle.std.proofs.Common.{◌≡◌, ◌∙◌, ℕ, ◌-◌, ◌≤◌, ◌≢◌, refl, sym, ap, subst, arith, Bool, true, false, cond, List, [], ◌∷◌, length, drop}
+use Rattle.std.specs.Prelude.{All, ◌==◌, map, nat_eq, Option, Some, None}
 use mathlib.Core.List.{IsPrefix}
 use Rattle.std.proofs.lemmas.Bool.Decides.{nat_tests}
-use Rattle.std.proofs.lemmas.List.{append-nil, append_cancel_left, drop_at, map-append}
+use Rattle.std.proofs.lemmas.List.{append-nil, append_cancel_left, drop_at}
 use Rattle.std.proofs.lemmas.List.Elements.{All-drop, All-get_or, All-head, All-tail, filter-append, filter_agree}
-use Rattle.std.proofs.lemmas.List.Sums.{fold-append}
 use Rattle.turnstile.specs.declared.view.PassView.{PassView}
 use Rattle.turnstile.specs.Entries.{of_label}
 use Rattle.definitions.specs.Words.{Extent}
@@ -14,9 +13,10 @@ use Rattle.versions.specs.declared.log.Accepted.{Accepted}
 use Rattle.book.specs.declared.step.Step.{Step}
 use Rattle.book.specs.declared.step.Step.TheVariants.{Edited, Looked, Settled}
 use Rattle.book.specs.Plans.{IsSettlement}
-use Rattle.book.specs.Play.{State, PendingLook, after, opening, played, pending_of, request_of, session_of, step_of}
-use Rattle.book.specs.Books.{BookValue, IsBook, IsSession, IsReady, IsSettledBy, count_of, state_of, log_of}
+use Rattle.book.specs.Play.{State, PendingLook, after, played, pending_of, request_of, session_of, step_of}
+use Rattle.book.specs.Books.{BookValue, IsSession, IsReady, IsSettledBy, count_of, state_of, log_of}
 use Rattle.session.specs.Holds.{book_of, seen_book, pending_in, CanStep, IsTaken}
+use Rattle.session.proofs.FrameLaws.{book-extent, book-sessions, book-history, book-unspent, state-again}
 use Rattle.session.proofs.PendingLaws.{IsLater, IsOfVersion, played-later, pending-length, pending-of_versions, pending-other}
 use Rattle.session.proofs.RunLaws.{settles-later}
 
@@ -54,36 +54,10 @@ others-pending capacity session sessions state (step ∷ steps) some of none =
     others-pending capacity session sessions (after capacity state (request_of step)) steps some (All-tail (λ (step : Step). IsSession sessions (session_of step)) step steps of) others.1
     ∙ pending-other capacity state (request_of step) session apart
 
--- ---- books of one frame
-book-again : (frame : List ℕ) (old new : List Step) → book_of frame new ≡ record (book_of frame old) { history = new }
-book-again (width ∷ depth ∷ capacity ∷ sessions ∷ []) old new = refl
-book-again frame old new = refl
-
-book-history : (frame : List ℕ) (history : List Step) → (book_of frame history).history ≡ history
-book-history (width ∷ depth ∷ capacity ∷ sessions ∷ []) history = refl
-book-history frame history = refl
-
--- a book with sessions has a frame
-book-unspent : (frame : List ℕ) (old new : List Step) → 1 ≤ (book_of frame old).sessions → (book_of frame new).spent ≡ false
-book-unspent (width ∷ depth ∷ capacity ∷ sessions ∷ []) old new some = refl
-book-unspent frame old new some = absurd (omega arith)
-
-state-again : (frame : List ℕ) (old more : List Step) → state_of (book_of frame (old ++ more)) ≡ played (book_of frame old).capacity (state_of (book_of frame old)) (map request_of more)
-state-again frame old more =
-    let book : BookValue = book_of frame old in
-    let play : List Step → State = λ steps. played book.capacity (opening book.sessions) (map request_of steps) in
-    ap state_of (book-again frame old (old ++ more))
-    ∙ ap (played book.capacity (opening book.sessions)) (map-append request_of old more)
-    ∙ fold-append (after book.capacity) (opening book.sessions) (map request_of old) (map request_of more)
-    ∙ ap (λ (steps : List Step). played book.capacity (play steps) (map request_of more)) (sym (book-history frame old))
-
 -- ---- how many steps
-count-own : (session : ℕ) (history : List Step) → count_of session history ≡ length (of_label session_of session history)
+pub count-own : (session : ℕ) (history : List Step) → length (of_label session_of session history) ≡ count_of session history
 count-own session history =
-    ap length (filter_agree (λ (step : Step). nat_eq session (session_of step)) (λ (step : Step). session_of step == session) (λ step. same session (session_of step)) history)
-  where
-    same : (m n : ℕ) → nat_eq m n ≡ (n == m)
-    same m n = grind (arith, nat_tests)
+    ap length (filter_agree (λ (s : Step). session_of s == session) (λ (s : Step). nat_eq session (session_of s)) (λ s. grind (arith, nat_tests)) history)
 
 -- a solution still holds at later edits
 settled-later : (extent : Extent) (old new : List Accepted) (look : Option PendingLook) (solved : List SolvedNode) → IsLater old new → IsOfVersion old look
@@ -100,10 +74,10 @@ module _ (v : PassView Step) (history : List Step) (can : CanStep v) (is : IsTak
   came = is.seen.0
 
   pub taken-extent : found.extent ≡ (seen_book v).extent
-  taken-extent = ap (λ (book : BookValue). book.extent) (book-again v.frame v.seen history)
+  taken-extent = book-extent v.frame v.seen history
 
   pub taken-sessions : found.sessions ≡ (seen_book v).sessions
-  taken-sessions = ap (λ (book : BookValue). book.sessions) (book-again v.frame v.seen history)
+  taken-sessions = book-sessions v.frame v.seen history
 
   taken-state : state_of found ≡ played (seen_book v).capacity (state_of (seen_book v)) (map request_of came)
   taken-state = ap (λ (steps : List Step). state_of (book_of v.frame steps)) (sym is.seen.1) ∙ state-again v.frame v.seen came
@@ -111,7 +85,7 @@ module _ (v : PassView Step) (history : List Step) (can : CanStep v) (is : IsTak
   pub taken-ready : IsReady found v.label
   taken-ready =
       let count : count_of v.label found.history ≡ length v.own =
-      ap (count_of v.label) (book-history v.frame history) ∙ count-own v.label history ∙ ap length is.own in
+      ap (count_of v.label) (book-history v.frame history) ∙ sym (count-own v.label history) ∙ ap length is.own in
       record {
         unspent = book-unspent v.frame v.seen history (omega (arith, can.session.some, can.session.within));
         of_book = record { some = can.session.some; within = omega (arith, taken-sessions, can.session.within) };

@@ -1,6 +1,6 @@
 -- The passes of sessions: split off, worked on, and joined.
-use Rattle.std.proofs.Common.{◌≡◌, ◌∙◌, ℕ, zero, suc, ◌+◌, ◌-◌, ◌*◌, ◌<◌, ◌≤◌, Bool, false, refl, sym, ap, subst, arith, List, [], ◌∷◌, ◌++◌, length, slice_index_or, append_assoc}
-use Rattle.std.specs.Prelude.{All, Some, Contains, Result, Ok, Err, IfOk}
+use Rattle.std.proofs.Common.{◌≡◌, ◌∙◌, ℕ, zero, suc, ◌+◌, ◌-◌, ◌*◌, ◌<◌, ◌≤◌, Bool, false, sym, ap, subst, arith, List, [], ◌∷◌, ◌++◌, length, slice_index_or, append_assoc}
+use Rattle.std.specs.Prelude.{All, Contains, Result, Ok, Err, IfOk}
 use Rattle.std.proofs.lemmas.List.Elements.{All-contains}
 use mathlib.Core.List.{IsPrefix}
 use Rattle.turnstile.specs.declared.kept.Kept.{Ghosts}
@@ -8,7 +8,6 @@ use Rattle.turnstile.specs.declared.pass.Pass.{Pass}
 use Rattle.turnstile.specs.declared.turnstile.Turnstile.{Turnstile}
 use Rattle.turnstile.specs.declared.view.PassView.{PassView}
 use Rattle.turnstile.specs.Entries.{of_label, longer}
-use Rattle.turnstile.specs.Passes.{view}
 use Rattle.turnstile.specs.Views.{new_pass}
 use Rattle.words.specs.declared.memory.Memory.{Memory}
 use Rattle.script_reader.specs.declared.command.Command.{Command}

@@ -187,7 +187,7 @@ askers-are [] = refl
 askers-are (step ∷ steps) = cc (asker-step step, askers-are steps)
 
 module _ (script : ScriptValue) (book : BookValue) (is_book : IsBook book) (transcripts : List (List Answer)) (count : length transcripts ≡ length script.sessions)
-    (extent : book.extent ≡ script.extent) (sessions : book.sessions ≡ length script.sessions)
+    (sessions : book.sessions ≡ length script.sessions)
     (each : (session : ℕ) → IsSession (length script.sessions) session → IsServed script session book (length (of_session session script.sessions)) (of_session session transcripts)) where
   abbrev requests : List Request
   requests = map request_of book.history

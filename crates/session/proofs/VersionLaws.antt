@@ -1,6 +1,6 @@
 -- The versions of a script's answers are those that the book's steps tell.
-use Rattle.std.proofs.Common.{◌≡◌, ◌∙◌, ℕ, refl, sym, ap, subst, List, [], ◌∷◌, ◌++◌, Option, Some, None}
-use Rattle.std.specs.Prelude.{AllPairs, ◌≤◌, flat_map}
+use Rattle.std.proofs.Common.{◌≡◌, ℕ, refl, sym, ap, subst, List, [], ◌∷◌, ◌++◌, Option, Some, None}
+use Rattle.std.specs.Prelude.{AllPairs, ◌≤◌}
 use Rattle.definitions.specs.Words.{Extent}
 use Rattle.script_reader.specs.Script.{ScriptValue}
 use Rattle.book.specs.Play.{State, Request, step_of, steps_of}

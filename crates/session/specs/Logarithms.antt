@@ -1,5 +1,5 @@
 -- That the due Hall coordinates, expanded by brackets, are exactly the logarithm.
-use Rattle.std.specs.Prelude.{◌≡◌, ℕ, ◌≤◌, List, [], ◌∷◌, length, Option, Some, None, Result, Ok, Err, ℤ, pos, ◌*ℤ◌}
+use Rattle.std.specs.Prelude.{◌≡◌, ℕ, ◌≤◌, List, [], ◌∷◌, length, Option, Some, Result, Ok, Err, ℤ, pos, ◌*ℤ◌}
 use Rattle.definitions.specs.Words.{Extent, IsWord}
 use Rattle.definitions.specs.Signature.{signature}
 use Rattle.definitions.specs.Logarithm.{logarithm}
@@ -10,7 +10,7 @@ use Rattle.lie_bracket.specs.Brackets.{expanded}
 use Rattle.script_reader.specs.declared.fault.ScriptFault.{ScriptFault}
 use Rattle.script_reader.specs.Script.{ScriptValue}
 use Rattle.book.specs.declared.step.LookReply.{LookReply}
-use Rattle.book.specs.Play.{State, Request, Editing, Looking, Settling, looked_rows}
+use Rattle.book.specs.Play.{State, Request, Looking, looked_rows}
 use Rattle.session.specs.Play.{Run, Logged, looked, next_request, stepped, opening_run}
 
 -- at each word of k letters the sum over the members, with their coordinates, of their expansions by commutators is k times the series

@@ -1,5 +1,5 @@
 -- What one session does, told from the steps of all.
-use Rattle.std.specs.Prelude.{◌≡◌, ℕ, nat_eq, Bool, if◌then◌else◌, List, [], ◌∷◌, ◌++◌, map, drop, flat_map, sum_by, Option, Some, None}
+use Rattle.std.specs.Prelude.{◌≡◌, ℕ, nat_eq, Bool, if◌then◌else◌, List, [], ◌∷◌, ◌++◌, map, drop, flat_map, sum_by, Some}
 use Rattle.definitions.specs.Words.{Extent}
 use Rattle.script_reader.specs.declared.command.Command.{Command}
 use Rattle.book.specs.Play.{State, Request, opening, after, pending_of, request_of}

@@ -1,5 +1,5 @@
 -- What a script is due in an order of its sessions: the answer to each command, and the versions.
-use Rattle.std.specs.Prelude.{ℕ, zero, suc, ◌+◌, ◌-◌, ◌*◌, Bool, nat_le, if◌then◌else◌, List, [], ◌∷◌, ◌++◌, drop, take, map, length, fold, sum_by, replicate, slice_index_or, slice_set, Option, Some, None, is_some, ℤ}
+use Rattle.std.specs.Prelude.{ℕ, zero, suc, ◌-◌, ◌*◌, Bool, if◌then◌else◌, List, [], ◌∷◌, ◌++◌, drop, take, length, fold, sum_by, replicate, slice_index_or, slice_set, Option, Some, None, is_some, ℤ}
 use Rattle.std.specs.List.{find, list_any}
 use Rattle.definitions.specs.Words.{Extent, up_to}
 use Rattle.definitions.specs.Signature.{signature}

@@ -1,12 +1,12 @@
 -- What a run keeps while it takes its steps.
-use Rattle.std.specs.Prelude.{◌≡◌, ℕ, zero, suc, ◌+◌, ◌-◌, ◌*◌, ◌≤◌, false, List, [], ◌∷◌, ◌++◌, All, map, drop, length, sum_by, slice_index_or, slice_set, Option, Some, None}
+use Rattle.std.specs.Prelude.{◌≡◌, ℕ, ◌+◌, ◌-◌, ◌*◌, ◌≤◌, false, List, [], ◌∷◌, ◌++◌, All, map, drop, length, sum_by, slice_index_or, slice_set, Option, Some, None}
 use Rattle.definitions.specs.Words.{Extent}
 use Rattle.versions.specs.Versions.{LogValue}
 use Rattle.script_reader.specs.Script.{ScriptValue}
 use Rattle.solve.specs.declared.solution.Solved.{Solved}
 use Rattle.book.specs.Walks.{exps_of}
-use Rattle.book.specs.Play.{State, Request, Editing, Looking, Settling, PendingLook, pending_of, session_of, look_refusal, look_walk}
-use Rattle.book.specs.Looks.{look_visits, visits_unless}
+use Rattle.book.specs.Play.{State, Request, Looking, Settling, PendingLook, pending_of, session_of, look_refusal, look_walk}
+use Rattle.book.specs.Looks.{look_visits}
 use Rattle.book.specs.declared.query.Query.{Query}
 use Rattle.book.specs.declared.step.LookReply.{LookReply}
 use Rattle.book.specs.declared.step.Step.{Step}

@@ -1,7 +1,7 @@
-use Rattle.std.proofs.Common.{◌≡◌, ◌∙◌, ◌+◌, ◌≤◌, ℕ, Option, IfOk, sym, ap, subst, arith}
+use Rattle.std.proofs.Common.{◌≡◌, ◌∙◌, ◌+◌, ◌≤◌, Option, IfOk, sym, ap, subst, arith}
 use Rattle.std.proofs.lemmas.Result.{on_ok_weaker}
 use Rattle.book.specs.declared.query.Query.{Query}
-use Rattle.book.specs.Play.{Looking, PendingLook, pending_of}
+use Rattle.book.specs.Play.{Looking, pending_of}
 use Rattle.book.specs.Looks.{look_visits}
 use Rattle.book.specs.Books.{BookValue, state_of, log_of, with_request}
 use Rattle.solve.specs.declared.solution.Solved.{Solved}

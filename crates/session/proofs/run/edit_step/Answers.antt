@@ -1,7 +1,5 @@
-use Rattle.std.proofs.Common.{sym, ap, refl, None, ◌-◌, get_or}
+use Rattle.std.proofs.Common.{sym, refl, None, ◌-◌, get_or}
 use Rattle.std.proofs.lemmas.List.{set-get_or}
-use Rattle.versions.specs.Versions.{edit_reply}
-use Rattle.book.specs.Books.{state_of}
 use Rattle.book.specs.Play.{Editing}
 use Rattle.session.specs.declared.answer.Answer.TheVariants as answers
 use Rattle.session.proofs.StepLaws.{after-command, free-after_edit}

@@ -6,7 +6,6 @@ use Rattle.turnstile.specs.declared.view.PassView.{PassView}
 use Rattle.turnstile.specs.Passes.{view}
 use Rattle.book.specs.declared.step.Step.{Step}
 use Rattle.session.specs.declared.answer.Answer.{Answer}
-use Rattle.session.specs.declared.threads.Worked.{Worked}
 use Rattle.session.specs.Threads.{HasWorked, IsJoined, AreJoined}
 use Rattle.session.proofs.ThreadLaws.{worked-at, knows-more, joined-new, joined-more, are-joined-later}
 use Rattle.session.proofs.threads.join_all.Goals as goal

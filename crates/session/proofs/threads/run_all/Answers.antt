@@ -1,4 +1,4 @@
-use Rattle.std.proofs.Common.{rules, ◌≡◌, ◌∙◌, ◌+◌, ◌<◌, [], ℕ, List, None, length, slice_index_or, refl, sym, subst, ap, arith, false}
+use Rattle.std.proofs.Common.{rules, ◌≡◌, ◌∙◌, ◌+◌, ◌<◌, ℕ, List, None, length, slice_index_or, refl, sym, subst, ap, arith, false}
 use Rattle.std.specs.Prelude.{All}
 use Rattle.std.proofs.lemmas.Result.{IfOk-weaker}
 use mathlib.Core.List.{IsPrefix}
@@ -81,11 +81,9 @@ ends : (g : given.Over) (c : In_ok-transcripts g) (book : BookValue) → IsBook 
     → IsEnd c.args.script.now c.in_ok-book.book (view c.join_all.new.head) book c.in_ok-transcripts.transcripts.items
 ends g c book is_book unspent framed seen own =
     let passes : length c.in_ok-passes.passes.items ≡ length c.args.script.now.sessions = search rules in
-    let extent : c.in_ok-book.book.extent ≡ c.args.script.now.extent = search rules in
     let sessions : c.in_ok-book.book.sessions ≡ length c.args.script.now.sessions = search rules in
     record {
       is_script = c.sessions.ensures.script;
-      extent = extent;
       sessions = sessions;
       frame =
           c.in_ok-transcripts.ensures.frame ∙ ap (λ (v : PassView Step). v.frame) c.in_ok-passes.ensures.same ∙ ap (λ (v : PassView Step). v.frame) c.in-Ok.ensures.first ∙ ap frame_of c.of.ensures;
