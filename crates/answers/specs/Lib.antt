@@ -2,3 +2,4 @@ pub mod Text
 pub mod Json
 pub mod Generator
 pub mod Totals
+pub mod Told

@@ -5,6 +5,7 @@ mod coordinates;
 mod generator;
 mod json_levels;
 mod json_text;
+pub mod laws;
 mod levels;
 mod summary;
 #[cfg(test)]
