@@ -1,4 +1,4 @@
-pub mod CapacityOfWish
+pub mod RangesOfWish
 mod Examples
 pub mod Pieces
 pub mod SettingLaws

@@ -72,9 +72,13 @@ wish_of words = wish_in (settings_in words)
 abbrev pub IsCapacity : ℕ → Type 0
 IsCapacity capacity = (1 ≤ capacity) × (capacity ≤ 16384)
 
--- the capacity of a wish, if it has one, is in that range
-abbrev pub HasCapacity : Wish → Type 0
-HasCapacity (wishes.Gen n capacity) = IsCapacity capacity
-HasCapacity (wishes.Given order capacity written) = IsCapacity capacity
-HasCapacity (wishes.Threads capacity written) = IsCapacity capacity
-HasCapacity wishes.Refused = Unit {0}
+-- a count of generated commands is from 1 to 10000
+abbrev pub IsCount : ℕ → Type 0
+IsCount count = (1 ≤ count) × (count ≤ 10000)
+
+-- the numbers of a wish, those that it has, are in their ranges
+abbrev pub IsInRange : Wish → Type 0
+IsInRange (wishes.Gen count capacity) = IsCount count × IsCapacity capacity
+IsInRange (wishes.Given order capacity written) = IsCapacity capacity
+IsInRange (wishes.Threads capacity written) = IsCapacity capacity
+IsInRange wishes.Refused = Unit {0}

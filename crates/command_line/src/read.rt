@@ -1,6 +1,6 @@
 //! Words, read from left to right.
 ghost use Rattle.std.specs.Prelude.{◌≡◌, map, IfOk, string_bytes};
-ghost use Rattle.command_line.specs.Wishes.{HasCapacity, wish_of};
+ghost use Rattle.command_line.specs.Wishes.{IsInRange, wish_of};
 
 use crate::gathered::Gathered;
 use crate::setting::split_setting;
@@ -29,7 +29,7 @@ use words::Memory;
 /// Want of memory.
 pub fn read_words(alloc: Global, words: &[String]) -> Result<Wish, Memory>
     ensures wish { IfOk result (λ wish. wish ≡ wish_of (map string_bytes words.now)) }
-    ensures capacity { IfOk result HasCapacity }
+    ensures range { IfOk result IsInRange }
 {
     let mut gathered = Gathered::nothing();
     let mut rest = words;

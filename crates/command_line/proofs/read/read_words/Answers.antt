@@ -1,10 +1,10 @@
 use Rattle.std.proofs.Common.{◌≡◌, map, string_bytes, Global, subst, sym, arith}
 use Rattle.std.proofs.lemmas.Grind.{common_steps}
-use Rattle.command_line.specs.Wishes.{HasCapacity, wish_of}
-use Rattle.command_line.proofs.CapacityOfWish.{wish_has_capacity}
+use Rattle.command_line.specs.Wishes.{IsInRange, wish_of}
+use Rattle.command_line.proofs.RangesOfWish.{wish_is_in_range}
 use Rattle.command_line.proofs.read.read_words.Goals as goal
 
-pub returns-clause-capacity : goal.returns-clause-capacity
-returns-clause-capacity c =
+pub returns-clause-range : goal.returns-clause-range
+returns-clause-range c =
     let is : c.wish.result ≡ wish_of (map (string_bytes {Z = Global}) c.args.words.now) = grind (arith, common_steps) in
-    subst HasCapacity (sym is) (wish_has_capacity (map (string_bytes {Z = Global}) c.args.words.now))
+    subst IsInRange (sym is) (wish_is_in_range (map (string_bytes {Z = Global}) c.args.words.now))
