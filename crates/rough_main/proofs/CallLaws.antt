@@ -1,12 +1,13 @@
 -- How a reply is made, and what a call did once it was written.
-use Rattle.std.proofs.Common.{◌≡◌, ◌⊎◌, ◌+◌, ◌<◌, ◌≤◌, ℕ, List, [], length, drop, refl, sym, ap, ◌∙◌, subst, arith, Option, Some, None, IsSome, Bool, true, false, Result, Ok, Err, OnOk, IfErr, IsNone, inl, inr}
+use Rattle.std.proofs.Common.{◌≡◌, ◌≢◌, ◌⊎◌, ◌+◌, ◌<◌, ◌≤◌, ℕ, List, [], length, drop, refl, sym, ap, ◌∙◌, subst, arith, Option, Some, None, Bool, true, false, Result, Ok, Err, OnOk, IfErr, IsNone, inl, inr}
+use Rattle.std.specs.Prelude.{unwrap_or}
 use Rattle.std.specs.Io.KnownBytes.{Appends, IsAtEnd, Keeps}
 use Rattle.std.proofs.KnownBytes.{Keeps-refl, Consumes-nil}
 use Rattle.rough_io.specs.Counts.{Rose}
 use Rattle.rough_io.specs.Transfers.{AddsPrefix, TakesAtMost}
 use Rattle.rough_io.specs.declared.source.ReceiveFault.{ReceiveFault}
 use Rattle.rough_io.specs.declared.source.ReceiveFault.TheVariants.{Failed, Memory}
-use Rattle.command_line.specs.declared.wish.Form.TheVariants as form
+use Rattle.command_line.specs.declared.wish.Form.{Form}
 use Rattle.command_line.specs.declared.wish.Wish.{Wish}
 use Rattle.command_line.specs.declared.wish.Wish.TheVariants as wishes
 use Rattle.script_reader.specs.declared.fault.ScriptFault.{ScriptFault}
@@ -17,7 +18,7 @@ use Rattle.session.specs.Play.{illegal_place}
 use Rattle.rough_main.specs.declared.reply.Parsed.{Parsed}
 use Rattle.rough_main.specs.declared.reply.Parsed.TheVariants.{Script, Refused}
 use Rattle.rough_main.specs.declared.reply.Reply.{Reply}
-use Rattle.rough_main.specs.Due.{DueReply, answered, unless_illegal, script_reply, refused_or, refusal_of, capacity_of, order_in, is_threaded, IsReply, IsAnswer}
+use Rattle.rough_main.specs.Due.{DueReply, answered, unless_illegal, script_reply, generated_reply, unread_reply, form_of, capacity_of, order_in, is_threaded, IsReply, IsAnswer}
 use Rattle.rough_main.specs.Calls.{Port, IsCall, read_failed, write_failed, no_memory}
 use Rattle.rough_main.specs.Made.{IsMade, IsParsed, IsSpelled}
 
@@ -37,41 +38,33 @@ unless_illegal-status : (place : Option ℕ) (reply : DueReply) → reply.status
 unless_illegal-status None reply zero = inl zero
 unless_illegal-status (Some place) reply zero = inr refl
 
-script_reply-status : (capacity : ℕ) (order : List ℕ) (spelled : Result ScriptValue ScriptFault) → let status = (script_reply capacity order spelled).status in (status ≡ 0) ⊎ (status ≡ 3)
-script_reply-status capacity order (Ok script) = unless_illegal-status (illegal_place capacity script order) (answered capacity script order) refl
-script_reply-status capacity order (Err fault) = inr refl
+script_reply-status : (form : Form) (capacity : ℕ) (order : List ℕ) (spelled : Result ScriptValue ScriptFault) → let status = (script_reply form capacity order spelled).status in (status ≡ 0) ⊎ (status ≡ 3)
+script_reply-status form capacity order (Ok script) = unless_illegal-status (illegal_place capacity script order) (answered form capacity script order) refl
+script_reply-status form capacity order (Err fault) = inr refl
 
 -- only a script is answered
-answered-is_spelled : (capacity : ℕ) (order : List ℕ) (spelled : Result ScriptValue ScriptFault) (parsed : Parsed) → IsParsed spelled parsed → (script_reply capacity order spelled).status ≡ 0 → IsSpelled parsed
-answered-is_spelled capacity order spelled (Script script) is zero = tt
-answered-is_spelled capacity order (Ok script) (Refused reply) is zero = absurd (let same = is.1 in cc)
-answered-is_spelled capacity order (Err fault) (Refused reply) is zero = absurd (omega arith)
+answered-is_spelled : (form : Form) (capacity : ℕ) (order : List ℕ) (spelled : Result ScriptValue ScriptFault) (parsed : Parsed) → IsParsed spelled parsed → (script_reply form capacity order spelled).status ≡ 0 → IsSpelled parsed
+answered-is_spelled form capacity order spelled (Script script) is zero = tt
+answered-is_spelled form capacity order (Ok script) (Refused reply) is zero = absurd (let same = is.1 in cc)
+answered-is_spelled form capacity order (Err fault) (Refused reply) is zero = absurd (omega arith)
 
 -- ---- wishes
 
-pub threaded-is_built : (wish : Wish) → is_threaded wish ≡ true → refusal_of wish ≡ None
-threaded-is_built (wishes.Threads capacity form.Text) threaded = refl
-threaded-is_built (wishes.Threads capacity form.Json) threaded = absurd (cc)
-threaded-is_built (wishes.Given order capacity written) threaded = absurd (cc)
-threaded-is_built (wishes.Gen n capacity) threaded = absurd (cc)
-threaded-is_built wishes.Refused threaded = absurd (cc)
+pub threaded-is_read : (wish : Wish) → is_threaded wish ≡ true → unread_reply wish ≡ None
+threaded-is_read (wishes.Threads capacity form) threaded = refl
+threaded-is_read (wishes.Given order capacity form) threaded = absurd (cc)
+threaded-is_read (wishes.Gen n capacity) threaded = absurd (cc)
+threaded-is_read wishes.Refused threaded = absurd (cc)
 
--- a wish that is neither refused nor for threads gives an order
-pub plain-is_given : (wish : Wish) → is_threaded wish ≡ false → refusal_of wish ≡ None
-    → (order : List ℕ) × (capacity : ℕ) × (wish ≡ wishes.Given order capacity form.Text)
-plain-is_given (wishes.Threads capacity form.Text) plain built = absurd (cc)
-plain-is_given (wishes.Threads capacity form.Json) plain built = absurd (cc)
-plain-is_given (wishes.Given order capacity form.Text) plain built = (order, capacity, refl)
-plain-is_given (wishes.Given order capacity form.Json) plain built = absurd (cc)
-plain-is_given (wishes.Gen n capacity) plain built = absurd (cc)
-plain-is_given wishes.Refused plain built = absurd (cc)
+-- a reply for which nothing is read refuses the words, or is a summary
+abbrev IsUnread : Wish → ℕ → Type 0
+IsUnread wish status = (status ≡ 0) ⊎ ((status ≡ 2) × (wish ≡ wishes.Refused))
 
-pub threaded-has_capacity : (wish : Wish) → is_threaded wish ≡ true → (capacity : ℕ) × (wish ≡ wishes.Threads capacity form.Text)
-threaded-has_capacity (wishes.Threads capacity form.Text) threaded = (capacity, refl)
-threaded-has_capacity (wishes.Threads capacity form.Json) threaded = absurd (cc)
-threaded-has_capacity (wishes.Given order capacity written) threaded = absurd (cc)
-threaded-has_capacity (wishes.Gen n capacity) threaded = absurd (cc)
-threaded-has_capacity wishes.Refused threaded = absurd (cc)
+unread-status : (wish : Wish) (due : DueReply) → unread_reply wish ≡ Some due → IsUnread wish due.status
+unread-status (wishes.Threads capacity form) due unread = absurd (cc)
+unread-status (wishes.Given order capacity form) due unread = absurd (cc)
+unread-status (wishes.Gen n capacity) due unread = let same : generated_reply n capacity ≡ due = cc in inl (sym (ap (λ (d : DueReply). d.status) same))
+unread-status wishes.Refused due unread = let same : due.status ≡ 2 = cc in inr (same, refl)
 
 -- ---- what was spelled
 
@@ -92,52 +85,50 @@ module _ (wish : Wish) (order : List ℕ) where
   pub made-without_memory : (source : Port) → IsMade wish order (Err Memory) source source
   made-without_memory source = record {
     reply = λ bytes told. tt;
-    logarithms = λ bytes told. tt;
-    versions = λ bytes told. tt;
+    logarithms = λ read bytes told. tt;
+    versions = λ read bytes told. tt;
     status = tt;
     refused = tt;
-    whole = tt;
+    whole = λ read. tt;
     size = λ bytes told long. tt;
-    unread = λ refused. (λ same. absurd (cc), Keeps-refl source.told);
+    unread = λ due unread. (λ same. absurd (cc), Keeps-refl source.told, refl, tt);
     takes = takes-nothing (most_bytes + 1) source.told;
     failed = λ same. absurd (cc);
     memory = λ same. refl;
     ok = tt;
   }
 
-  -- a wish that is refused is answered unread
-  pub made-refused : (reply : Reply) (text : List ℕ) (source : Port) → Some text ≡ refusal_of wish → reply.status ≡ 2 → reply.text.items ≡ text → IsMade wish order (Ok reply) source source
-  made-refused reply text source refusal status items = record {
-    reply = λ bytes told.
-        subst (λ (refused : Option (List ℕ)). IsReply reply.status reply.text.items (refused_or refused (script_reply (capacity_of wish) (order_in wish order) (parse bytes)))) refusal (status, items);
-    logarithms = λ bytes told zero. absurd (omega arith);
-    versions = λ bytes told zero. absurd (omega arith);
-    status = inr (inl status);
-    refused = (λ two. subst (λ (refused : Option (List ℕ)). IsSome refused) refusal refl, λ refused. status);
-    whole = λ zero. absurd (omega arith);
-    size = λ bytes told long three. absurd (omega arith);
-    unread = λ refused. (λ same. absurd (cc), Keeps-refl source.told);
-    takes = takes-nothing (most_bytes + 1) source.told;
-    failed = λ same. absurd (cc);
-    memory = λ same. absurd (cc);
-    ok = refl;
-  }
+  -- a reply for which nothing is read
+  pub made-unread : (reply : Reply) (due : DueReply) (source : Port) → unread_reply wish ≡ Some due → IsReply reply.status reply.text.items due → IsMade wish order (Ok reply) source source
+  made-unread reply due source unread is =
+      let status : IsUnread wish reply.status = subst (IsUnread wish) (sym is.0) (unread-status wish due unread) in
+      record {
+        reply = λ bytes told. subst (λ (u : Option DueReply). IsReply reply.status reply.text.items (unwrap_or u (script_reply (form_of wish) (capacity_of wish) (order_in wish order) (parse bytes)))) (sym unread) is;
+        logarithms = λ read bytes told zero. absurd (cc);
+        versions = λ read bytes told zero. absurd (cc);
+        status = elim status [ inl zero ↦ inl zero | inr refused ↦ inr (inl refused.0) ];
+        refused = λ two. elim status [ inl zero ↦ absurd (omega arith) | inr refused ↦ refused.1 ];
+        whole = λ read zero. absurd (cc);
+        size = λ bytes told long three. absurd (elim status [ inl zero ↦ omega arith | inr refused ↦ omega (arith, refused.0) ]);
+        unread = λ other same. (λ failed. absurd (cc), Keeps-refl source.told, refl, subst (IsReply reply.status reply.text.items) (let both : due ≡ other = cc in both) is);
+        takes = takes-nothing (most_bytes + 1) source.told;
+        failed = λ same. absurd (cc);
+        memory = λ same. absurd (cc);
+        ok = refl;
+      }
 
-  -- ---- a wish that isn't refused
-  built-is_not_refused : refusal_of wish ≡ None → IsSome (refusal_of wish) → ⊥
-  built-is_not_refused built refused = absurd (let none = subst (λ (refusal : Option (List ℕ)). IsSome refusal) built refused in cc)
-
-  pub made-failed : (fault : ReceiveFault) (source taken : Port) → refusal_of wish ≡ None → TakesAtMost (most_bytes + 1) source.told taken.told
+  -- ---- a wish for which the source is read
+  pub made-failed : (fault : ReceiveFault) (source taken : Port) → unread_reply wish ≡ None → TakesAtMost (most_bytes + 1) source.told taken.told
       → (fault ≡ Failed → Rose source.faults taken.faults) → (fault ≡ Memory → taken.faults ≡ source.faults) → IsMade wish order (Err fault) source taken
-  made-failed fault source taken built takes rose kept = record {
+  made-failed fault source taken read takes rose kept = record {
     reply = λ bytes told. tt;
-    logarithms = λ bytes told. tt;
-    versions = λ bytes told. tt;
+    logarithms = λ read bytes told. tt;
+    versions = λ read bytes told. tt;
     status = tt;
     refused = tt;
-    whole = tt;
+    whole = λ read. tt;
     size = λ bytes told long. tt;
-    unread = λ refused. absurd (built-is_not_refused built refused);
+    unread = λ due unread. absurd (cc);
     takes = takes;
     failed = λ same. rose (cc);
     memory = λ same. kept (cc);
@@ -145,26 +136,26 @@ module _ (wish : Wish) (order : List ℕ) where
   }
 
   -- the reply to what the source spells
-  pub made-replied : (reply : Reply) (source taken : Port) (spelled : Result ScriptValue ScriptFault) (parsed : Parsed) → refusal_of wish ≡ None → IsParsed spelled parsed
-      → ((bytes : List ℕ) → source.told ≡ Some bytes → parse bytes ≡ spelled) → IsReply reply.status reply.text.items (script_reply (capacity_of wish) (order_in wish order) spelled)
+  pub made-replied : (reply : Reply) (source taken : Port) (spelled : Result ScriptValue ScriptFault) (parsed : Parsed) → unread_reply wish ≡ None → IsParsed spelled parsed
+      → ((bytes : List ℕ) → source.told ≡ Some bytes → parse bytes ≡ spelled) → IsReply reply.status reply.text.items (script_reply (form_of wish) (capacity_of wish) (order_in wish order) spelled)
       → ((bytes : List ℕ) → source.told ≡ Some bytes → LogarithmsExpand (parse bytes)) → ((bytes : List ℕ) → source.told ≡ Some bytes → VersionsNeverFall (parse bytes))
       → (IsSpelled parsed → IsAtEnd taken.told)
       → ((bytes : List ℕ) → source.told ≡ Some bytes → most_bytes < length bytes → taken.told ≡ Some (drop (most_bytes + 1) bytes))
       → TakesAtMost (most_bytes + 1) source.told taken.told → taken.faults ≡ source.faults → IsMade wish order (Ok reply) source taken
-  made-replied reply source taken spelled parsed built is same due logarithms versions whole size takes kept =
-      let answer = script_reply-status (capacity_of wish) (order_in wish order) spelled in
+  made-replied reply source taken spelled parsed read is same due logarithms versions whole size takes kept =
+      let answer = script_reply-status (form_of wish) (capacity_of wish) (order_in wish order) spelled in
       let status = due.0 in
       record {
         reply = λ bytes told.
-            let decided = subst (λ (s : Result ScriptValue ScriptFault). IsReply reply.status reply.text.items (script_reply (capacity_of wish) (order_in wish order) s)) (sym (same bytes told)) due in
-            subst (λ (refused : Option (List ℕ)). IsReply reply.status reply.text.items (refused_or refused (script_reply (capacity_of wish) (order_in wish order) (parse bytes)))) (sym built) decided;
-        logarithms = λ bytes told zero. logarithms bytes told;
-        versions = λ bytes told zero. versions bytes told;
+            let decided = subst (λ (s : Result ScriptValue ScriptFault). IsReply reply.status reply.text.items (script_reply (form_of wish) (capacity_of wish) (order_in wish order) s)) (sym (same bytes told)) due in
+            subst (λ (u : Option DueReply). IsReply reply.status reply.text.items (unwrap_or u (script_reply (form_of wish) (capacity_of wish) (order_in wish order) (parse bytes)))) (sym read) decided;
+        logarithms = λ read bytes told zero. logarithms bytes told;
+        versions = λ read bytes told zero. versions bytes told;
         status = elim answer [ inl zero ↦ inl (status ∙ zero) | inr three ↦ inr (inr (status ∙ three)) ];
-        refused = (λ two. absurd (elim answer [ inl zero ↦ omega arith | inr three ↦ omega arith ]), λ refused. absurd (built-is_not_refused built refused));
-        whole = λ zero. whole (answered-is_spelled (capacity_of wish) (order_in wish order) spelled parsed is (sym status ∙ zero));
+        refused = λ two. absurd (elim answer [ inl zero ↦ omega arith | inr three ↦ omega arith ]);
+        whole = λ read zero. whole (answered-is_spelled (form_of wish) (capacity_of wish) (order_in wish order) spelled parsed is (sym status ∙ zero));
         size = λ bytes told long three. size bytes told long;
-        unread = λ refused. absurd (built-is_not_refused built refused);
+        unread = λ due unread. absurd (cc);
         takes = takes;
         failed = λ same. absurd (cc);
         memory = λ same. absurd (cc);
@@ -177,15 +168,15 @@ module _ (wish : Wish) (order : List ℕ) where
   call-read_failed source taken sink made = record {
     statuses = inr (inl refl);
     answered = λ answer. absurd (fault-is_no_answer 4 (omega arith) answer);
-    logarithms = λ zero. absurd (omega arith);
-    versions = λ zero. absurd (omega arith);
+    logarithms = λ zero read bytes told. absurd (omega arith);
+    versions = λ zero read bytes told. absurd (omega arith);
     faultless = λ answer. absurd (fault-is_no_answer 4 (omega arith) answer);
     complete = λ still kept bytes told. absurd (still (made.failed refl));
-    whole = λ zero. absurd (omega arith);
+    whole = λ zero read. absurd (omega arith);
     size = λ bytes told long three. absurd (omega arith);
     takes = made.takes;
     refused = λ two. absurd (omega arith);
-    unread = λ refused. absurd ((made.unread refused).0 refl);
+    unread = λ due unread. absurd ((made.unread due unread).0 refl);
     source_failed = λ same. (made.failed refl, Keeps-refl sink.told, refl);
     sink_failed = λ five. absurd (omega arith);
     memory_wanting = λ six. absurd (omega arith);
@@ -195,15 +186,15 @@ module _ (wish : Wish) (order : List ℕ) where
   call-without_memory source taken sink made = record {
     statuses = inr (inr (inr refl));
     answered = λ answer. absurd (fault-is_no_answer 6 (omega arith) answer);
-    logarithms = λ zero. absurd (omega arith);
-    versions = λ zero. absurd (omega arith);
+    logarithms = λ zero read bytes told. absurd (omega arith);
+    versions = λ zero read bytes told. absurd (omega arith);
     faultless = λ answer. absurd (fault-is_no_answer 6 (omega arith) answer);
     complete = λ still kept bytes told. inr refl;
-    whole = λ zero. absurd (omega arith);
+    whole = λ zero read. absurd (omega arith);
     size = λ bytes told long three. absurd (omega arith);
     takes = made.takes;
     refused = λ two. absurd (omega arith);
-    unread = λ refused. (inr (inr refl), (made.unread refused).1);
+    unread = λ due unread. let made_unread = made.unread due unread in (made_unread.1, made_unread.2, inr (inr refl));
     source_failed = λ four. absurd (omega arith);
     sink_failed = λ five. absurd (omega arith);
     memory_wanting = λ same. (Keeps-refl sink.told, made.memory refl, refl);
@@ -214,15 +205,15 @@ module _ (wish : Wish) (order : List ℕ) where
   call-written reply source taken sink given made appends kept = record {
     statuses = inl made.status;
     answered = λ answer bytes told. let due = made.reply bytes told in (due.0, subst (Appends sink.told given.told) due.1 appends);
-    logarithms = λ zero bytes told. made.logarithms bytes told zero;
-    versions = λ zero bytes told. made.versions bytes told zero;
+    logarithms = λ zero read bytes told. made.logarithms read bytes told zero;
+    versions = λ zero read bytes told. made.versions read bytes told zero;
     faultless = λ answer. (made.ok, kept);
     complete = λ still quiet bytes told. inl (made.reply bytes told).0;
-    whole = made.whole;
+    whole = λ zero read. made.whole read zero;
     size = λ bytes told long three. made.size bytes told long three;
     takes = made.takes;
-    refused = made.refused.0;
-    unread = λ refused. (inl (made.refused.1 refused), (made.unread refused).1);
+    refused = made.refused;
+    unread = λ due unread. let made_unread = made.unread due unread in let is = made_unread.3 in (made_unread.1, made_unread.2, inl (is.0, subst (Appends sink.told given.told) is.1 appends));
     source_failed = λ four. absurd (fault-is_no_answer reply.status (omega arith) made.status);
     sink_failed = λ five. absurd (fault-is_no_answer reply.status (omega arith) made.status);
     memory_wanting = λ six. absurd (fault-is_no_answer reply.status (omega arith) made.status);
@@ -233,15 +224,15 @@ module _ (wish : Wish) (order : List ℕ) where
   call-write_failed reply source taken sink given made prefix rose = record {
     statuses = inr (inr (inl refl));
     answered = λ answer. absurd (fault-is_no_answer 5 (omega arith) answer);
-    logarithms = λ zero. absurd (omega arith);
-    versions = λ zero. absurd (omega arith);
+    logarithms = λ zero read bytes told. absurd (omega arith);
+    versions = λ zero read bytes told. absurd (omega arith);
     faultless = λ answer. absurd (fault-is_no_answer 5 (omega arith) answer);
     complete = λ still quiet bytes told. absurd (quiet rose);
-    whole = λ zero. absurd (omega arith);
+    whole = λ zero read. absurd (omega arith);
     size = λ bytes told long three. absurd (omega arith);
     takes = made.takes;
     refused = λ two. absurd (omega arith);
-    unread = λ refused. (inr (inl refl), (made.unread refused).1);
+    unread = λ due unread. let made_unread = made.unread due unread in (made_unread.1, made_unread.2, inr (inl (refl, subst (λ (text : List ℕ). AddsPrefix text sink.told given.told) made_unread.3.1 prefix)));
     source_failed = λ four. absurd (omega arith);
     sink_failed = λ same. (made.ok, rose, λ bytes told. subst (λ (text : List ℕ). AddsPrefix text sink.told given.told) (made.reply bytes told).1 prefix);
     memory_wanting = λ six. absurd (omega arith);

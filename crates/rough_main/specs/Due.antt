@@ -1,7 +1,9 @@
 -- What a run is due: a status and a text, from what the command line wishes and the bytes of the script.
-use Rattle.std.specs.Prelude.{◌≡◌, ◌⊎◌, ℕ, Bool, true, false, List, [], ◌++◌, codes, Option, Some, None, Result, Ok, Err}
+use Rattle.std.specs.Prelude.{◌≡◌, ◌⊎◌, ℕ, Bool, true, false, List, [], ◌++◌, codes, Option, Some, None, unwrap_or, Result, Ok, Err}
 use Rattle.std.specs.Fmt.{decimal}
-use Rattle.command_line.specs.declared.wish.Form.TheVariants as form
+use Rattle.definitions.specs.Words.{Extent}
+use Rattle.command_line.specs.declared.wish.Form.{Form}
+use Rattle.command_line.specs.declared.wish.Form.TheVariants as forms
 use Rattle.command_line.specs.declared.wish.Wish.{Wish}
 use Rattle.command_line.specs.declared.wish.Wish.TheVariants as wishes
 use Rattle.script_reader.specs.declared.fault.Reason.{Reason}
@@ -9,8 +11,10 @@ use Rattle.script_reader.specs.declared.fault.Reason.TheVariants.{Byte, Keyword,
 use Rattle.script_reader.specs.declared.fault.ScriptFault.{ScriptFault}
 use Rattle.script_reader.specs.declared.fault.ScriptFault.TheVariants.{Size, Line, Memory}
 use Rattle.script_reader.specs.Script.{ScriptValue, parse}
-use Rattle.session.specs.Play.{due_outcome, illegal_place}
+use Rattle.session.specs.Play.{DueOutcome, due_outcome, illegal_place, round_order}
 use Rattle.answers.specs.Text.{outcome_text}
+use Rattle.answers.specs.Json.{json_text}
+use Rattle.answers.specs.Generator.{generated, summary_text}
 
 pub record DueReply : Type 0 where
   pub status : ℕ
@@ -44,9 +48,14 @@ fault_text Size = codes "fault size\n"
 fault_text (Line n reason) = line_text n reason
 fault_text Memory = []
 
+-- an outcome as text, or as JSON
+abbrev pub written : Form → Extent → DueOutcome → List ℕ
+written forms.Text extent outcome = outcome_text extent outcome
+written forms.Json extent outcome = json_text extent outcome
+
 -- the answers of a script whose sessions take their steps in this order
-abbrev pub answered : ℕ → ScriptValue → List ℕ → DueReply
-answered capacity script order = record { status = 0; text = outcome_text script.extent (due_outcome capacity script order) }
+abbrev pub answered : Form → ℕ → ScriptValue → List ℕ → DueReply
+answered form capacity script order = record { status = 0; text = written form script.extent (due_outcome capacity script order) }
 
 abbrev pub place_text : ℕ → List ℕ
 place_text place = codes "fault order place " ++ decimal place ++ codes "\n"
@@ -56,13 +65,19 @@ abbrev pub unless_illegal : Option ℕ → DueReply → DueReply
 unless_illegal None reply = reply
 unless_illegal (Some place) reply = record { status = 3; text = place_text place }
 
-abbrev pub ordered : ℕ → ScriptValue → List ℕ → DueReply
-ordered capacity script order = unless_illegal (illegal_place capacity script order) (answered capacity script order)
+abbrev pub ordered : Form → ℕ → ScriptValue → List ℕ → DueReply
+ordered form capacity script order = unless_illegal (illegal_place capacity script order) (answered form capacity script order)
 
 -- the answers of an accepted script whose sessions take their steps in this order, or why it is refused
-abbrev pub script_reply : ℕ → List ℕ → Result ScriptValue ScriptFault → DueReply
-script_reply capacity order (Ok script) = ordered capacity script order
-script_reply capacity order (Err fault) = record { status = 3; text = fault_text fault }
+abbrev pub script_reply : Form → ℕ → List ℕ → Result ScriptValue ScriptFault → DueReply
+script_reply form capacity order (Ok script) = ordered form capacity script order
+script_reply form capacity order (Err fault) = record { status = 3; text = fault_text fault }
+
+-- the summary of the generated script of n commands, whose sessions take one step each in turn
+abbrev pub generated_reply : ℕ → ℕ → DueReply
+generated_reply n capacity =
+    let script : ScriptValue = generated n in
+    record { status = 0; text = summary_text n script.extent (due_outcome capacity script (round_order capacity script)) }
 
 -- the order is legal for a script that is accepted
 abbrev pub IsLegalFor : ℕ → List ℕ → Result ScriptValue ScriptFault → Type 0
@@ -70,37 +85,38 @@ IsLegalFor capacity order (Ok script) = illegal_place capacity script order ≡ 
 IsLegalFor capacity order (Err fault) = Unit {0}
 
 -- ---- wishes
--- why a wish is refused before anything is read: the words are wrong, or what they wish is not built yet
-abbrev pub refusal_of : Wish → Option (List ℕ)
-refusal_of (wishes.Threads capacity form.Text) = None
-refusal_of (wishes.Given order capacity form.Text) = None
-refusal_of wishes.Refused = Some (codes "fault words\n")
-refusal_of _ = Some (codes "fault later\n")
+-- the reply to a wish for which nothing is read: the words are refused, or the script is generated
+abbrev pub unread_reply : Wish → Option DueReply
+unread_reply wishes.Refused = Some (record { status = 2; text = codes "fault words\n" })
+unread_reply (wishes.Gen n capacity) = Some (generated_reply n capacity)
+unread_reply _ = None
+
+-- how answers are written
+abbrev pub form_of : Wish → Form
+form_of (wishes.Threads capacity form) = form
+form_of (wishes.Given order capacity form) = form
+form_of _ = forms.Text
 
 -- how many nodes the cache keeps at most
 abbrev pub capacity_of : Wish → ℕ
-capacity_of (wishes.Threads capacity written) = capacity
-capacity_of (wishes.Given order capacity written) = capacity
+capacity_of (wishes.Threads capacity form) = capacity
+capacity_of (wishes.Given order capacity form) = capacity
 capacity_of (wishes.Gen n capacity) = capacity
 capacity_of wishes.Refused = 4096
 
 -- the order that is given, or else the one that threads take
 abbrev pub order_in : Wish → List ℕ → List ℕ
-order_in (wishes.Given given capacity written) order = given
+order_in (wishes.Given given capacity form) order = given
 order_in _ order = order
 
--- the sessions run on threads: no order is given, and nothing is refused
+-- the sessions run on threads
 abbrev pub is_threaded : Wish → Bool
-is_threaded (wishes.Threads capacity form.Text) = true
+is_threaded (wishes.Threads capacity form) = true
 is_threaded _ = false
-
-abbrev pub refused_or : Option (List ℕ) → DueReply → DueReply
-refused_or (Some text) reply = record { status = 2; text = text }
-refused_or None reply = reply
 
 -- what is due to a wish and the bytes of the source, where threads take their steps in this order
 abbrev pub due_reply : Wish → List ℕ → List ℕ → DueReply
-due_reply wish bytes order = refused_or (refusal_of wish) (script_reply (capacity_of wish) (order_in wish order) (parse bytes))
+due_reply wish bytes order = unwrap_or (unread_reply wish) (script_reply (form_of wish) (capacity_of wish) (order_in wish order) (parse bytes))
 
 -- a status and a text are the ones that are due
 abbrev pub IsReply : ℕ → List ℕ → DueReply → Type 0

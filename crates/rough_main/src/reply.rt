@@ -1,23 +1,21 @@
 //! The reply that is due, made whole before anything is written.
-ghost use Rattle.std.specs.Prelude.{◌≡◌, ◌<◌, ◌≤◌, ℕ, List, Result, IfOk, OnOk};
-ghost use Rattle.std.specs.Option.{option_copied};
+ghost use Rattle.std.specs.Prelude.{◌≡◌, ◌<◌, ◌≤◌, ℕ, List, codes, Result, IfOk, OnOk};
 ghost use Rattle.script_reader.specs.declared.fault.ScriptFault.{ScriptFault as TheFault};
 ghost use Rattle.script_reader.specs.Script.{ScriptValue, parse};
 ghost use Rattle.session.specs.Play.{DueOutcome};
 ghost use Rattle.session.specs.Answers.{IsOutcome, AllHaveMembers};
 ghost use Rattle.session.specs.Logarithms.{LogarithmsExpand};
 ghost use Rattle.session.specs.Versions.{VersionsNeverFall};
-ghost use Rattle.answers.specs.Text.{outcome_text};
-ghost use Rattle.rough_main.specs.Due.{ordered, script_reply, refusal_of, IsReply, IsLegalFor};
+ghost use Rattle.rough_main.specs.Due.{written, ordered, script_reply, generated_reply, IsReply, IsLegalFor};
 ghost use Rattle.rough_main.specs.Made.{IsParsed};
 
 use crate::fault_text::{line_text, place_text};
-use answers::text_of;
-use command_line::{Form, Wish};
+use answers::{gen_script, json_of, summary_of, text_of};
+use command_line::Form;
 use hall_set::HallSet;
 use script_reader::{Script, ScriptFault, read_script};
 use session::laws::{logarithms_expand, versions_never_fall};
-use session::{Gate, Outcome, ReplayFault, replay, run_all};
+use session::{Gate, Outcome, ReplayFault, replay, replay_round, run_all};
 use std::alloc::Global;
 use std::sync::Wait;
 use std::sync::ledger::{Blank, Ledger};
@@ -57,22 +55,29 @@ pub fn script_in(alloc: Global, bytes: &[u8]) -> Result<Parsed, Memory>
     Ok(Parsed::Refused(Reply { status: 3, text }))
 }
 
-/// The reply with the text of an outcome.
-fn reply_with(alloc: Global, script: &Script, outcome: &Outcome) -> Result<Reply, Memory>
+/// The reply with an outcome in this form.
+fn reply_with(
+    alloc: Global,
+    script: &Script,
+    form: Form,
+    outcome: &Outcome,
+) -> Result<Reply, Memory>
     requires { AllHaveMembers script.now.extent outcome.now }
-    ensures { (due : DueOutcome) → IsOutcome script.now.extent outcome.now due → IfOk result (λ reply. IsReply reply.status reply.text.items (record { status = 0; text = outcome_text script.now.extent due })) }
+    ensures { (due : DueOutcome) → IsOutcome script.now.extent outcome.now due → IfOk result (λ reply. IsReply reply.status reply.text.items (record { status = 0; text = written form script.now.extent due })) }
 {
     let hall = HallSet::build(alloc, script.shape())?;
-    Ok(Reply {
-        status: 0,
-        text: text_of(alloc, &hall, outcome)?,
-    })
+    let text = match form {
+        Form::Text => text_of(alloc, &hall, outcome)?,
+        Form::Json => json_of(alloc, &hall, outcome)?,
+    };
+    Ok(Reply { status: 0, text })
 }
 
 /// The reply to a script whose sessions take their steps in this order, over a count of steps that begins here.
 fn reply_counted<L: Ledger>(
     alloc: Global,
     script: &Script,
+    form: Form,
     capacity: u32,
     order: &[u32],
     blank: Blank,
@@ -82,11 +87,11 @@ fn reply_counted<L: Ledger>(
     requires counted { 0 < L.parts }
     requires some { 1 ≤ capacity }
     requires within { capacity ≤ 16384 }
-    ensures { IfOk result (λ reply. IsReply reply.status reply.text.items (ordered capacity script.now order.now)) }
+    ensures { IfOk result (λ reply. IsReply reply.status reply.text.items (ordered form capacity script.now order.now)) }
 {
     let mut steps: Steps<L> = Steps::new(blank);
     match replay(alloc, script, capacity, order, &mut steps) {
-        Ok(outcome) => reply_with(alloc, script, &outcome),
+        Ok(outcome) => reply_with(alloc, script, form, &outcome),
         Err(ReplayFault::Order(place)) => Ok(Reply {
             status: 3,
             text: place_text(alloc, place)?,
@@ -99,17 +104,19 @@ fn reply_counted<L: Ledger>(
 pub fn reply_in_order(
     alloc: Global,
     parsed: Parsed,
+    form: Form,
     capacity: u32,
     order: &[u32],
 ) -> Result<Reply, Memory>
     requires some { 1 ≤ capacity }
     requires within { capacity ≤ 16384 }
-    ensures { (spelled : Result ScriptValue TheFault) → IsParsed spelled parsed → IfOk result (λ reply. IsReply reply.status reply.text.items (script_reply capacity order.now spelled)) }
+    ensures { (spelled : Result ScriptValue TheFault) → IsParsed spelled parsed → IfOk result (λ reply. IsReply reply.status reply.text.items (script_reply form capacity order.now spelled)) }
 {
     match parsed {
         Parsed::Script(script) => reply_counted::<Free>(
             alloc,
             &script,
+            form,
             capacity,
             order,
             Blank::new(1),
@@ -123,47 +130,66 @@ pub fn reply_on_threads<R: Threads + Wait + Sync, G: Gate>(
     rt: &R,
     alloc: Global,
     parsed: Parsed,
+    form: Form,
     capacity: u32,
     gate: &G,
 ) -> Result<Reply, Memory>
     requires some { 1 ≤ capacity }
     requires within { capacity ≤ 16384 }
     ensures { (spelled : Result ScriptValue TheFault) → IsParsed spelled parsed →
-        IfOk result (λ reply. (order : List ℕ) × IsLegalFor capacity order spelled × IsReply reply.status reply.text.items (script_reply capacity order spelled)) }
+        IfOk result (λ reply. (order : List ℕ) × IsLegalFor capacity order spelled × IsReply reply.status reply.text.items (script_reply form capacity order spelled)) }
 {
     match parsed {
         Parsed::Script(script) => {
             let outcome = run_all(rt, alloc, &script, capacity, gate)?;
-            reply_with(alloc, &script, &outcome)
+            reply_with(alloc, &script, form, &outcome)
         }
         Parsed::Refused(reply) => Ok(reply),
     }
 }
 
-/// Why a wish is refused before anything is read.
-pub fn refusal(wish: &Wish) -> Option<&'static str>
-    ensures { option_copied result ≡ refusal_of wish.now }
+/// The summary of the generated script of n commands, over a count of steps that begins here.
+fn generated_counted<L: Ledger>(
+    alloc: Global,
+    n: u32,
+    capacity: u32,
+    blank: Blank,
+) -> Result<Reply, Memory>
+    requires name { blank.name ≡ L.name }
+    requires parts { blank.parts ≡ L.parts }
+    requires counted { 0 < L.parts }
+    requires one { 1 ≤ n }
+    requires few { n ≤ 10000 }
+    requires some { 1 ≤ capacity }
+    requires within { capacity ≤ 16384 }
+    ensures { IfOk result (λ reply. IsReply reply.status reply.text.items (generated_reply n capacity)) }
 {
-    match wish {
-        Wish::Threads {
-            form: Form::Text,
-            ..
-        } => None,
-        Wish::Given {
-            form: Form::Text,
-            ..
-        } => None,
-        Wish::Refused => Some("fault words\n"),
-        _ => Some("fault later\n"),
-    }
+    let mut steps: Steps<L> = Steps::new(blank);
+    let script = gen_script(alloc, n)?;
+    let outcome = replay_round(alloc, &script, capacity, &mut steps)?;
+    Ok(Reply {
+        status: 0,
+        text: summary_of(alloc, n, script.shape(), &outcome)?,
+    })
 }
 
-/// The reply to a wish that is refused.
-pub fn reply_to_refused(alloc: Global, text: &str) -> Result<Reply, Memory>
-    ensures { IfOk result (λ reply. (reply.status ≡ 2) × (reply.text.items ≡ text.now)) }
+/// The summary of the generated script of n commands, whose sessions take one step each in turn.
+pub fn reply_generated(alloc: Global, n: u32, capacity: u32) -> Result<Reply, Memory>
+    requires one { 1 ≤ n }
+    requires few { n ≤ 10000 }
+    requires some { 1 ≤ capacity }
+    requires within { capacity ≤ 16384 }
+    ensures { IfOk result (λ reply. IsReply reply.status reply.text.items (generated_reply n capacity)) }
+{
+    generated_counted::<Free>(alloc, n, capacity, Blank::new(1))
+}
+
+/// The reply to words that are refused.
+pub fn reply_to_refused(alloc: Global) -> Result<Reply, Memory>
+    ensures { IfOk result (λ reply. (reply.status ≡ 2) × (reply.text.items ≡ codes "fault words\n")) }
 {
     Ok(Reply {
         status: 2,
-        text: Vec::from_slice(alloc, text.as_bytes())?,
+        text: Vec::from_slice(alloc, b"fault words\n")?,
     })
 }

@@ -421,6 +421,14 @@ level 2 over 2 (1,1)=4 (1,2)=6 (2,1)=6 (2,2)=9\n\
 order 1,1,1\n\
 versions 1\n";
 
+/// The same as JSON.
+const JSON_ANSWERS: &str = "{\"order\":[1,1,1],\"sessions\":[[\
+{\"command\":1,\"reply\":\"done\",\"version\":1},\
+{\"command\":2,\"exps\":1,\"hits\":0,\"levels\":[\
+{\"over\":\"1\",\"terms\":[[\"(1)\",\"2\"],[\"(2)\",\"3\"]]},\
+{\"over\":\"2\",\"terms\":[[\"(1,1)\",\"4\"],[\"(1,2)\",\"6\"],[\"(2,1)\",\"6\"],[\"(2,2)\",\"9\"]]}],\
+\"misses\":1,\"reply\":\"sig\",\"version\":1}]],\"shape\":[2,2],\"versions\":1}\n";
+
 /// How a run over memory ended.
 #[derive(Drop)]
 struct Ended {
@@ -550,8 +558,6 @@ fn words_are_answered_unread(rt: HostRuntime) -> Result<(), Fail> {
         (&["--order=1,1,1", "--order", "1"], "fault words\n"),
         (&["--order", "-1"], "fault words\n"),
         (&["--order"], "fault words\n"),
-        (&["--json"], "fault later\n"),
-        (&["--gen", "8"], "fault later\n"),
     ] {
         // A read would fail.
         let run = run_over_memory(&rt, rt.alloc(), words, SCRIPT, &[1], &[])?;
@@ -743,5 +749,47 @@ fn threads_are_left_to_the_caller(rt: HostRuntime) -> Result<(), Fail> {
         None
     );
     assert_eq!(rt; (source.faults(), sink.faults()), (0, 0));
+    Ok(())
+}
+
+#[test]
+fn answers_as_json(rt: HostRuntime) -> Result<(), Fail> {
+    for words in [["--json"].as_slice(), &["--json", "--order=1,1,1"]] {
+        let run = run_over_memory(&rt, rt.alloc(), words, SCRIPT, &[], &[])?;
+        assert_eq!(rt; run.status, 0);
+        assert_eq!(rt; run.written.as_str(), JSON_ANSWERS);
+    }
+    Ok(())
+}
+
+#[test]
+fn generated_scripts(rt: HostRuntime) -> Result<(), Fail> {
+    for (n, summary) in [
+        (
+            "8",
+            "gen 8\nsteps 9\nversions 7\nhits 0\nmisses 1\nexps 2\nsum 60\n",
+        ),
+        (
+            "1",
+            "gen 1\nsteps 1\nversions 1\nhits 0\nmisses 0\nexps 0\nsum 0\n",
+        ),
+    ] {
+        // A read would fail.
+        let run = run_over_memory(&rt, rt.alloc(), &["--gen", n], SCRIPT, &[1], &[])?;
+        assert_eq!(rt; run.status, 0);
+        assert_eq!(rt; run.written.as_str(), summary);
+    }
+    Ok(())
+}
+
+#[test]
+fn longest_generated_script(rt: HostRuntime) -> Result<(), Fail> {
+    let words = ["--gen=10000"];
+    let first = run_over_memory(&rt, rt.alloc(), &words, "", &[], &[])?;
+    let again = run_over_memory(&rt, rt.alloc(), &words, "", &[], &[])?;
+    assert_eq!(rt; first.status, 0);
+    assert!(rt; first.written.starts_with("gen 10000\n"));
+    assert!(rt; first.written.contains("\nversions 8750\n"));
+    assert!(rt; first.written == again.written);
     Ok(())
 }

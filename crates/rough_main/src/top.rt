@@ -3,7 +3,7 @@ ghost use Rattle.std.specs.Prelude.{◌≡◌, ◌⊎◌, ◌<◌, ◌≤◌, �
 ghost use Rattle.std.specs.Io.KnownBytes.{IsAtEnd};
 ghost use Rattle.rough_io.specs.Counts.{Rose};
 ghost use Rattle.rough_io.specs.Transfers.{TakesAtMost};
-ghost use Rattle.command_line.specs.Wishes.{wish_of, HasCapacity};
+ghost use Rattle.command_line.specs.Wishes.{wish_of, IsInRange};
 ghost use Rattle.command_line.specs.declared.wish.Wish.{Wish as TheWish};
 ghost use Rattle.script_reader.specs.declared.fault.ScriptFault.{ScriptFault as TheFault};
 ghost use Rattle.script_reader.specs.Script.{ScriptValue, most_bytes, parse};
@@ -14,9 +14,9 @@ ghost use Rattle.rough_main.specs.Calls.{Port, IsCall, write_failed, no_memory};
 ghost use Rattle.rough_main.specs.Made.{IsMade, IsParsed, IsSpelled};
 
 use crate::reply::{
-    Parsed, Reply, refusal, reply_in_order, reply_on_threads, reply_to_refused, script_in,
+    Parsed, Reply, reply_generated, reply_in_order, reply_on_threads, reply_to_refused, script_in,
 };
-use command_line::{Form, Wish, read_words};
+use command_line::{Wish, read_words};
 use rough_io::{ReceiveFault, Sink, Source, receive, send};
 use session::Gate;
 use std::alloc::Global;
@@ -57,26 +57,24 @@ fn read_source<S: Source>(alloc: Global, source: &mut S) -> Result<Parsed, Recei
 
 /// The reply to a wish that isn't for threads. The source isn't read where the wish is refused.
 fn reply_plain<S: Source>(alloc: Global, wish: &Wish, source: &mut S) -> Result<Reply, ReceiveFault>
-    requires capacity { HasCapacity wish.now }
+    requires range { IsInRange wish.now }
     requires plain { is_threaded wish.now ≡ false }
     ensures { (order : List ℕ) → IsMade wish.now order result (record { told = S.left source.old; faults = S.faults source.old }) (record { told = S.left source.new; faults = S.faults source.new }) }
 {
-    if let Some(text) = refusal(wish) {
-        return match reply_to_refused(alloc, text) {
-            Ok(reply) => Ok(reply),
-            Err(_memory) => Err(ReceiveFault::Memory),
-        };
-    }
-    let Wish::Given {
-        order,
-        capacity,
-        ..
-    } = wish
-    else {
-        unreachable!();
+    let made = match wish {
+        Wish::Refused => reply_to_refused(alloc),
+        Wish::Gen { n, capacity } => reply_generated(alloc, *n, *capacity),
+        Wish::Given {
+            order,
+            capacity,
+            form,
+        } => {
+            let parsed = read_source(alloc, source)?;
+            reply_in_order(alloc, parsed, *form, *capacity, order.list())
+        }
+        Wish::Threads { .. } => unreachable!(),
     };
-    let parsed = read_source(alloc, source)?;
-    match reply_in_order(alloc, parsed, *capacity, order.list()) {
+    match made {
         Ok(reply) => Ok(reply),
         Err(_memory) => Err(ReceiveFault::Memory),
     }
@@ -90,17 +88,17 @@ fn reply_threaded<R: Threads + Wait + Sync, S: Source, G: Gate>(
     source: &mut S,
     gate: &G,
 ) -> Result<Reply, ReceiveFault>
-    requires capacity { HasCapacity wish.now }
+    requires range { IsInRange wish.now }
     requires threaded { is_threaded wish.now ≡ true }
     ensures { (order : List ℕ)
         × ((bytes : List ℕ) → S.left source.old ≡ Some bytes → OnOk result (IsLegalFor (capacity_of wish.now) order (parse bytes)))
         × IsMade wish.now order result (record { told = S.left source.old; faults = S.faults source.old }) (record { told = S.left source.new; faults = S.faults source.new }) }
 {
-    let Wish::Threads { capacity, .. } = wish else {
+    let Wish::Threads { capacity, form } = wish else {
         unreachable!();
     };
     let parsed = read_source(alloc, source)?;
-    match reply_on_threads(rt, alloc, parsed, *capacity, gate) {
+    match reply_on_threads(rt, alloc, parsed, *form, *capacity, gate) {
         Ok(reply) => Ok(reply),
         Err(_memory) => Err(ReceiveFault::Memory),
     }
@@ -110,13 +108,7 @@ fn reply_threaded<R: Threads + Wait + Sync, S: Source, G: Gate>(
 fn is_for_threads(wish: &Wish) -> bool
     ensures { result ≡ is_threaded wish.now }
 {
-    matches!(
-        wish,
-        Wish::Threads {
-            form: Form::Text,
-            ..
-        }
-    )
+    matches!(wish, Wish::Threads { .. })
 }
 
 /// Writes the reply that was made, and answers its status, or the status of what failed.
@@ -169,8 +161,8 @@ pub fn rough_plain<S: Source, O: Sink>(
 ///
 /// | Status | Comes | Written |
 /// |---|---|---|
-/// | 0 | the script was accepted | its answers |
-/// | 2 | exactly where the words are refused, or wish what isn't built yet | `fault words`, `fault later` |
+/// | 0 | the script was accepted, or is generated | its answers, or the summary |
+/// | 2 | exactly where the words are refused | `fault words` |
 /// | 3 | exactly where the script is refused, or else the order that is given | `fault size`, `fault line n reason`, `fault order place p` |
 /// | 4 | only where the source's count of faults rose | nothing |
 /// | 5 | only where the sink's count of faults rose | a prefix of the text of status 0, 2 or 3 |

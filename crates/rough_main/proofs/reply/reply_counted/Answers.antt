@@ -7,7 +7,7 @@ use Rattle.rough_main.proofs.reply.reply_counted.Goals as goal
 pub returns-in-Ok : goal.returns-in-Ok
 returns-in-Ok g c =
     let script = c.args.script.now in let order = c.args.order.now in
-    let due : answered c.args.capacity script order ≡ unless_illegal (illegal_place c.args.capacity script order) (answered c.args.capacity script order) =
-    ap (λ (place : Option ℕ). unless_illegal place (answered c.args.capacity script order)) (sym c.in-Ok.ensures.legal) in
+    let due : answered c.args.form c.args.capacity script order ≡ unless_illegal (illegal_place c.args.capacity script order) (answered c.args.form c.args.capacity script order) =
+    ap (λ (place : Option ℕ). unless_illegal place (answered c.args.form c.args.capacity script order)) (sym c.in-Ok.ensures.legal) in
     subst (λ (d : DueReply). IfOk c.reply_with.result (λ (reply : Reply). IsReply reply.status reply.text.items d)) due
     (c.reply_with.ensures (due_outcome c.args.capacity script order) c.in-Ok.ensures.outcome)

@@ -1,10 +1,10 @@
-use Rattle.std.proofs.Common.{◌≡◌, ℕ, List, Ok, Result, subst}
+use Rattle.std.proofs.Common.{◌≡◌, ◌∙◌, ℕ, List, Ok, Err, Result, ap, subst}
 use Rattle.std.specs.Io.KnownBytes.{Appends}
 use Rattle.rough_io.specs.Transfers.{AddsPrefix}
 use Rattle.rough_io.specs.declared.source.ReceiveFault.{ReceiveFault}
 use Rattle.rough_main.specs.declared.reply.Reply.{Reply}
 use Rattle.rough_main.specs.Made.{IsMade}
-use Rattle.rough_main.proofs.CallLaws.{call-written, call-write_failed}
+use Rattle.rough_main.proofs.CallLaws.{call-read_failed, call-without_memory, call-written, call-write_failed}
 use Rattle.rough_main.proofs.top.write_reply.Goals as goal
 
 pub returns-in-Ok-send-clause-call : goal.returns-in-Ok-send-clause-call
@@ -20,3 +20,11 @@ returns-clause-call g c = λ wish order source taken made.
     (record { told = g.O.Sink.written c.send.new.sink; faults = g.O.Sink.faults c.send.new.sink })
     (subst (λ (m : Result Reply ReceiveFault). IsMade wish order m source taken) c.in-Ok.is made)
     (subst (λ (xs : List ℕ). AddsPrefix xs (g.O.Sink.written c.args.sink.now) (g.O.Sink.written c.send.new.sink)) c.deref.ensures.value c.in-Err.ensures.prefix) c.in-Err.ensures.cause
+
+pub returns-in-Err-Failed-clause-call : goal.returns-in-Err-Failed-clause-call
+returns-in-Err-Failed-clause-call g c = λ wish order source taken made.
+    call-read_failed wish order source taken (record { told = g.O.Sink.written c.args.sink.now; faults = g.O.Sink.faults c.args.sink.now }) (subst (λ (m : Result Reply ReceiveFault). IsMade wish order m source taken) (c.in-Err-Failed.is ∙ ap (λ (f : ReceiveFault). Err f) (rw c.in-Err-Failed.is at c.in-Err-Failed.field-0-is)) made)
+
+pub returns-in-Err-Memory-clause-call : goal.returns-in-Err-Memory-clause-call
+returns-in-Err-Memory-clause-call g c = λ wish order source taken made.
+    call-without_memory wish order source taken (record { told = g.O.Sink.written c.args.sink.now; faults = g.O.Sink.faults c.args.sink.now }) (subst (λ (m : Result Reply ReceiveFault). IsMade wish order m source taken) (c.in-Err-Memory.is ∙ ap (λ (f : ReceiveFault). Err f) (rw c.in-Err-Memory.is at c.in-Err-Memory.field-0-is)) made)
