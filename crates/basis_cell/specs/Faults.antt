@@ -1,7 +1,7 @@
 -- When there are no tables of a shape.
 use Rattle.std.specs.Prelude.{◌≡◌, Some, None}
 use Rattle.definitions.specs.Words.{Extent}
-use Rattle.hall_set.specs.Hall.{hall_list}
+use Rattle.definitions.specs.Hall.{hall_list}
 use Rattle.lie_bracket.specs.declared.fault.TableFault.{TableFault}
 use Rattle.lie_bracket.specs.declared.fault.TableFault.TheVariants.{Memory, Pair, Level}
 use Rattle.lie_bracket.specs.Tables.{heavy_pair}

@@ -1,4 +1,4 @@
-ghost use Rattle.std.specs.Prelude.{◌≡◌, ◌↔◌, IsTrue, IfOk, IfErr};
+ghost use Rattle.std.specs.Prelude.{◌≡◌, IfOk, IfErr};
 ghost use Rattle.basis_cell.specs.Faults.{IsTablesFault};
 ghost use Rattle.basis_cell.specs.Holdings.{extent_of};
 
@@ -45,13 +45,6 @@ fn boxed_tables(alloc: Global, shape: Shape) -> Result<Box<Tables>, TableFault>
     }
 }
 
-/// Whether two shapes are the same.
-fn is_same(a: Shape, b: Shape) -> bool
-    ensures { IsTrue result ↔ a ≡ b }
-{
-    a.width() == b.width() && a.depth() == b.depth()
-}
-
 impl BasisCell {
     /// A cell without tables.
     pub fn new(alloc: Global) -> BasisCell {
@@ -68,7 +61,7 @@ impl BasisCell {
         let shared = self
             .tables
             .get_or_try_init(move || boxed_tables(alloc, shape))?;
-        if is_same(shared.shape(), shape) {
+        if shared.shape() == shape {
             return Ok(Held::Shared(shared));
         }
         Ok(Held::Own(boxed_tables(alloc, shape)?))

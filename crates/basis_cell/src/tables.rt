@@ -1,6 +1,6 @@
 ghost use Rattle.std.specs.Prelude.{◌≡◌, IfOk, IfErr, None};
 ghost use Rattle.definitions.specs.Words.{IsShape};
-ghost use Rattle.hall_set.specs.Hall.{hall_list};
+ghost use Rattle.definitions.specs.Hall.{hall_list};
 ghost use Rattle.lie_bracket.specs.Tables.{heavy_pair};
 ghost use Rattle.dynkin_map.specs.Coordinates.{heavy_level};
 ghost use Rattle.basis_cell.specs.Faults.{AreLight, IsTablesFault};

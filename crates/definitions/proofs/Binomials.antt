@@ -5,6 +5,7 @@ use Rattle.definitions.specs.Words.{binom, factorial}
 use Rattle.definitions.specs.Sums.{count_below}
 use Rattle.definitions.proofs.SumLaws.{count_below-add, count_below-mul, count_below-same, count_below-first}
 
+-- no more than n of n things can be picked
 pub binom_above : (n k : ℕ) → n < k → binom n k ≡ 0
 binom_above n zero h = absurd (omega arith)
 binom_above zero (suc k) h = refl
@@ -14,16 +15,19 @@ binom_above (suc n) (suc k) h = omega (arith, binom_above n k (omega arith), bin
 abbrev pub binomial_term : (a b k i : ℕ) → ℕ
 binomial_term a b k i = binom k i * (a ^ (k - i) * b ^ i)
 
+-- a later term of the next power: b times the one before, and what the next lemma says of the rest
 term_step : (a b k i : ℕ) → binomial_term a b (suc k) (suc i) ≡ b * binomial_term a b k i + binom k (suc i) * (a ^ (k - i) * b ^ suc i)
 term_step a b k i =
     let e : suc k - suc i ≡ k - i = omega arith in
     rw e (omega (arith, ap (λ (n : ℕ). binom k i * (a ^ (k - i) * n)) (pow-suc b i), ap (λ (n : ℕ). binom k (suc i) * (a ^ (k - i) * n)) (pow-suc b i)))
 
+-- the rest is a times the next term of the power
 low_step : (a b k i : ℕ) → i < k → a * binomial_term a b k (suc i) ≡ binom k (suc i) * (a ^ (k - i) * b ^ suc i)
 low_step a b k i h =
     let e : k - i ≡ suc (k - suc i) = omega arith in
     rw e (omega (arith, ap (λ (n : ℕ). binom k (suc i) * (n * b ^ suc i)) (pow-suc a (k - suc i))))
 
+-- the first term of the next power is a times the first one
 zero_step : (a b k : ℕ) → binomial_term a b (suc k) zero ≡ a * binomial_term a b k zero
 zero_step a b k = simp (pow-zero, sub-zero, pow-suc) (omega arith)
 
@@ -46,16 +50,17 @@ binomial a b (suc k) =
     let before : count_below (suc k) (binomial_term a b k) ≡ (a + b) ^ k = binomial a b k in
     omega (arith, ap (λ (n : ℕ). a * n) before, ap (λ (n : ℕ). b * n) before)
 
-factorial-pos : (n : ℕ) → 1 ≤ factorial n
+pub factorial-pos : (n : ℕ) → 1 ≤ factorial n
 factorial-pos zero = omega arith
 factorial-pos (suc n) = omega (arith, factorial-pos n)
 
+-- there is one way to pick all
 pub binom-all : (n : ℕ) → binom n n ≡ 1
 binom-all zero = refl
 binom-all (suc n) = omega (arith, binom-all n, binom_above n (suc n) (omega arith))
 
 -- binomials by factorials
-binom-factorial : (n a b : ℕ) → a + b ≡ n → binom n a * (factorial a * factorial b) ≡ factorial n
+pub binom-factorial : (n a b : ℕ) → a + b ≡ n → binom n a * (factorial a * factorial b) ≡ factorial n
 binom-factorial zero zero zero e = omega arith
 binom-factorial zero zero (suc b) e = absurd (omega arith)
 binom-factorial zero (suc a) b e = absurd (omega arith)

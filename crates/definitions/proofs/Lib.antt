@@ -3,7 +3,10 @@ pub mod SumLaws
 pub mod Binomials
 pub mod WordLaws
 pub mod WordLists
+pub mod AllWords
 pub mod MoveLaws
+pub mod Roots
+pub mod MoveWeights
 pub mod ProductLaws
 pub mod ProductBounds
 pub mod SignatureLaws

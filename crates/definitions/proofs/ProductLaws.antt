@@ -10,11 +10,13 @@ use Rattle.definitions.proofs.Integers.{mul_assoc_ℤ, zero-mul_ℤ}
 use Rattle.definitions.proofs.Binomials.{binom-all, trinomial}
 use Rattle.definitions.proofs.SumLaws.{sum_below-mul, sum_below-mul_right, sum_below-same, sum_below-first, sum_below-zero, sum_below-next, line_of, triangle}
 
+-- both binomials come to the front, where the first two factors are together
 regroup-left : (m n : ℕ) (p q r : ℤ) → pos m *ℤ ((pos n *ℤ (p *ℤ q)) *ℤ r) ≡ pos (m * n) *ℤ (p *ℤ (q *ℤ r))
 regroup-left m n p q r =
     ap (λ (z : ℤ). pos m *ℤ z) (mul_assoc_ℤ (pos n) (p *ℤ q) r ∙ ap (λ (z : ℤ). pos n *ℤ z) (mul_assoc_ℤ p q r))
     ∙ sym (mul_assoc_ℤ (pos m) (pos n) (p *ℤ (q *ℤ r)))
 
+-- the same where the inner product is a sum of its own
 regroup-right : (m n : ℕ) (p s : ℤ) → pos m *ℤ (p *ℤ (pos n *ℤ s)) ≡ pos (m * n) *ℤ (p *ℤ s)
 regroup-right m n p s =
     ap (λ (z : ℤ). pos m *ℤ z) (sym (mul_assoc_ℤ p (pos n) s) ∙ ap (λ (z : ℤ). z *ℤ s) (*ℤ_comm p (pos n)) ∙ mul_assoc_ℤ (pos n) p s)
@@ -25,11 +27,13 @@ abbrev pub twice : (a b c : List ℕ → ℤ) → List ℕ → ℕ → ℕ → �
 twice a b c word i j =
     pos (binom (length word) j * binom j i) *ℤ (a (take i word) *ℤ (b (take (j - i) (drop i word)) *ℤ c (drop j word)))
 
+-- the letters between two cuts
 cut_between : (i j : ℕ) (word : List ℕ) → i ≤ j → drop i (take j word) ≡ take (j - i) (drop i word)
 cut_between i j word h =
     let e : j ≡ i + (j - i) = omega arith in
     ap (λ (n : ℕ). drop i (take n word)) e ∙ drop-take i (j - i) word
 
+-- a cut after i letters and one after l more, by both places
 right-cell : (a b c : List ℕ → ℤ) (word : List ℕ) (i l : ℕ) → i + l ≤ length word
     → pos (binom (length word) i) *ℤ (a (take i word) *ℤ (pos (binom (length word - i) l) *ℤ (b (take l (drop i word)) *ℤ c (drop l (drop i word))))) ≡ twice a b c word i (i + l)
 right-cell a b c word i l h =
@@ -44,6 +48,7 @@ right-cell a b c word i l h =
     ∙ ap₂ (λ (n : ℕ) (z : ℤ). pos (binom (length word) (i + l) * binom (i + l) i) *ℤ (a (take i word) *ℤ (b (take n (drop i word)) *ℤ z)))
     (sym between) (ap c (drop-drop l i word))
 
+-- the product of three from the left: for each second cut all first ones before it
 left-term : (a b c : List ℕ → ℤ) (word : List ℕ) (j : ℕ) → j < suc (length word) → product_term (scaled_product a b) c word j ≡ sum_below (suc j) (λ i. twice a b c word i j)
 unfolding product_term scaled_product
 left-term a b c word j h =
@@ -61,6 +66,7 @@ left-term a b c word j h =
     (ap a (take-take i j word (omega arith)))
     (ap b (cut_between i j word (omega arith))))
 
+-- the product of three from the right: for each first cut all second ones after it
 right-term : (a b c : List ℕ → ℤ) (word : List ℕ) (i : ℕ) → i < suc (length word) → product_term a (scaled_product b c) word i ≡ line_of (twice a b c word) (length word) i
 unfolding product_term scaled_product
 right-term a b c word i h =
@@ -75,6 +81,7 @@ right-term a b c word i h =
     ∙ sum_below-same (suc (k - i)) (λ l. pos (binom k i) *ℤ (a (take i word) *ℤ f l)) (λ l. twice a b c word i (i + l))
     (λ l below. right-cell a b c word i l (omega arith))
 
+-- the scaled product of series is associative
 pub scaled_product-assoc : (a b c : List ℕ → ℤ) (word : List ℕ) → scaled_product (scaled_product a b) c word ≡ scaled_product a (scaled_product b c) word
 unfolding scaled_product
 scaled_product-assoc a b c word =
@@ -93,6 +100,7 @@ zero-inside n z = ap (λ (y : ℤ). pos n *ℤ y) (zero-mul_ℤ z) ∙ *ℤ-zero
 zero-inside_right : (n : ℕ) (z : ℤ) → pos n *ℤ (z *ℤ pos 0) ≡ pos 0
 zero-inside_right n z = ap (λ (y : ℤ). pos n *ℤ y) (*ℤ-zero z) ∙ *ℤ-zero (pos n)
 
+-- the unit is neutral on the left
 pub scaled_product-unit_left : (b : List ℕ → ℤ) (word : List ℕ) → scaled_product unit b word ≡ b word
 unfolding scaled_product product_term
 scaled_product-unit_left b word =
@@ -104,6 +112,7 @@ scaled_product-unit_left b word =
     ∙ zero-inside (binom k (suc i)) (b (drop (suc i) word))))
     ∙ omega (arith, ints)
 
+-- the unit is neutral on the right
 pub scaled_product-unit_right : (a : List ℕ → ℤ) (word : List ℕ) → scaled_product a unit word ≡ a word
 unfolding scaled_product product_term
 scaled_product-unit_right a word =

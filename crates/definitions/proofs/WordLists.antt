@@ -25,6 +25,7 @@ length-blocks : {A : Type 0} (f : ℕ → List A) (xs : List ℕ) (n : ℕ) → 
 length-blocks f [] n each = omega arith
 length-blocks f (x ∷ xs) n each = omega (arith, length-append (f x) (flat_map f xs), each x, length-blocks f xs n each)
 
+-- in joined lists of n elements each, the j-th element of the i-th list
 block-at : {A : Type 0} (f : ℕ → List A) (xs : List ℕ) (n i j : ℕ) (d : A) → ((x : ℕ) → length (f x) ≡ n) → i < length xs → j < n
     → get_or (flat_map f xs) (i * n + j) d ≡ get_or (f (get_or xs i 0)) j d
 block-at f [] n i j d each h g = absurd (omega arith)
@@ -35,6 +36,7 @@ block-at f (x ∷ xs) n (suc i) j d each h g =
     let e : suc i * n + j ≡ length (f x) + (i * n + j) = omega (arith, each x) in
     rw e (get_or-append-add (f x) (flat_map f xs) (i * n + j) d ∙ block-at f xs n i j d each (omega arith) g)
 
+-- there are width ^ k words of k letters
 pub length-words_of : (width k : ℕ) → length (words_of width k) ≡ width ^ k
 length-words_of width zero = omega (arith, pow-zero width)
 length-words_of width (suc k) =
@@ -43,8 +45,11 @@ length-words_of width (suc k) =
 
 -- the word of k letters with the number i
 pub record IsNumbered (width k i : ℕ) (word : List ℕ) : Type 0 where
+  -- it is made of the letters 1 .. width
   pub letters : All (IsLetter width) word
+  -- it has k letters
   pub len : length word ≡ k
+  -- its number among the words of its length is i
   pub number_is : number width word ≡ i
 
 numbered-cons : (width k q r : ℕ) (word : List ℕ) → q < width → IsNumbered width k r word → IsNumbered width (suc k) (q * width ^ k + r) (suc q ∷ word)
@@ -55,7 +60,7 @@ numbered-cons width k q r word h is = record {
 }
 
 -- the word of its first letter's place and the number of its other letters
-word-at : (width k q r : ℕ) → q < width → r < width ^ k → get_or (words_of width (suc k)) (q * width ^ k + r) [] ≡ suc q ∷ get_or (words_of width k) r []
+pub word-at : (width k q r : ℕ) → q < width → r < width ^ k → get_or (words_of width (suc k)) (q * width ^ k + r) [] ≡ suc q ∷ get_or (words_of width k) r []
 word-at width k q r h g =
     block-at (λ a. map (λ word. a ∷ word) (words_of width k)) (up_to width) (width ^ k) q r [] (λ a. length-map (words_of width k) (λ word. a ∷ word) ∙ length-words_of width k) (omega (arith, length-up_to width)) g
     ∙ get_or-map (λ word. get_or (up_to width) q 0 ∷ word) (words_of width k) r [] [] (omega (arith, length-words_of width k))

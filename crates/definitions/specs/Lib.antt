@@ -1,9 +1,13 @@
 pub mod Words
+pub mod AllWords
 pub mod Sums
 pub mod Products
+pub mod Exponentials
 pub mod Moves
 pub mod Signature
 pub mod Rows
 pub mod Logarithm
 pub mod Shuffles
 pub mod Commutators
+pub mod Hall
+pub mod Order

@@ -23,6 +23,7 @@ rounded r tick = tick / 2 ^ (16 - r) * 2 ^ (16 - r)
 abbrev pub rows_in : ℕ → ℕ → List RowValue → List RowValue
 rows_in a b rows = filter (λ row. lies_in a b row.tick) rows
 
+-- the moves of rows, in the order of the rows
 abbrev pub moves_of : List RowValue → List Parts
 moves_of rows = map (λ row. row.x) rows
 

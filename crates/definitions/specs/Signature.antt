@@ -7,6 +7,7 @@ use Rattle.definitions.specs.Moves.{Parts, step, move_weight}
 unfoldable pub signature : List Parts → List ℕ → ℤ
 signature moves = fold (λ series parts. scaled_product series (step parts)) unit moves
 
+-- the sum of the weights of the moves
 abbrev pub weight : List Parts → ℕ
 weight moves = sum_by move_weight moves
 

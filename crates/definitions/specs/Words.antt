@@ -23,6 +23,7 @@ pub record IsShape (extent : Extent) : Type 0 where
 abbrev pub IsLetter : ℕ → ℕ → Type 0
 IsLetter width a = (1 ≤ a) × (a ≤ width)
 
+-- at most as many letters as the depth, each from 1 to the width
 pub record IsWord (extent : Extent) (word : List ℕ) : Type 0 where
   pub short : length word ≤ extent.depth
   pub letters : All (IsLetter extent.width) word
@@ -48,6 +49,7 @@ binom n zero = 1
 binom zero (suc k) = 0
 binom (suc n) (suc k) = binom n k + binom n (suc k)
 
+-- n! = 1 * 2 * .. * n
 abbrev pub factorial : ℕ → ℕ
 factorial zero = 1
 factorial (suc n) = suc n * factorial n

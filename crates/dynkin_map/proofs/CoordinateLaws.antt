@@ -1,5 +1,5 @@
 -- The Hall coordinates of a series that vanishes on shuffles expand to k times the series.
-use Rattle.std.proofs.Common.{◌≡◌, inl, inr, ℕ, zero, suc, ◌+◌, ◌≤◌, refl, sym, ap, ap₂, ◌∙◌, subst, arith, ℤ, pos, ◌+ℤ◌, ◌*ℤ◌, List, [], ◌∷◌, length, eqb, cond}
+use Rattle.std.proofs.Common.{◌≡◌, inl, inr, ℕ, zero, suc, ◌+◌, ◌≤◌, refl, sym, ap, ◌∙◌, subst, arith, ℤ, pos, ◌+ℤ◌, ◌*ℤ◌, List, [], ◌∷◌, length, eqb, cond}
 use Rattle.std.specs.Prelude.{All, Bool}
 use Rattle.std.proofs.lemmas.Bool.{eq-eqb, ne_eqb, cases_eq}
 use Rattle.std.proofs.lemmas.List.Elements.{All-nil, All-cons, All-head, All-tail, All-weaker}
@@ -12,9 +12,9 @@ use Rattle.definitions.proofs.Integers.{mul_assoc_ℤ, zero-mul_ℤ, one-mul_ℤ
 use Rattle.definitions.proofs.SumLaws.{sum_below-mul, sum_below-same}
 use Rattle.shuffle.proofs.ShuffleSums.{exchange}
 use Rattle.shuffle.proofs.DualLaws.{sum_words-same, sum_words-mul, dual-whole}
-use Rattle.hall_set.specs.Hall.{InHall, member, degree, degree_of}
-use Rattle.hall_set.specs.declared.member.Member.{Member}
-use Rattle.hall_set.specs.declared.member.Member.TheVariants.{Letter}
+use Rattle.definitions.specs.Hall.{InHall, member, degree, degree_of}
+use Rattle.definitions.specs.declared.member.Member.{Member}
+use Rattle.definitions.specs.declared.member.Member.TheVariants.{Letter}
 use Rattle.hall_set.proofs.GrownLists.{IsHall}
 use Rattle.lie_bracket.specs.declared.term.Term.{Term}
 use Rattle.lie_bracket.specs.Brackets.{term, bracket, coefficient, expanded}
@@ -23,12 +23,18 @@ use Rattle.lie_bracket.proofs.TableSteps.{coefficient-other}
 use Rattle.lie_bracket.proofs.BracketTerms.{IsTermOf, terms-over, bracket-terms}
 use Rattle.lie_bracket.proofs.CommutatorLaws.{commutator-same}
 use Rattle.lie_bracket.proofs.BracketExpansion.{Expansions, bracket-expands}
-use Rattle.dynkin_map.specs.Coordinates.{image_with, image, sum_members, coordinate}
+use Rattle.dynkin_map.specs.Coordinates.{image_with, image, coordinate}
 
+-- the sum over the members of degree k
+unfoldable pub sum_members : List Member → ℕ → (ℕ → ℤ) → ℤ
+sum_members hall k f = sum_below (length hall) (λ i. cond (eqb (degree hall (suc i)) k) (f (suc i)) (pos 0))
+
+-- 0 is neutral on the right
 pub add-zero_ℤ : (z : ℤ) → z +ℤ pos 0 ≡ z
 add-zero_ℤ z = omega (arith, ints)
 
 -- ---- sums over words of letters
+-- sums over words of k letters agree where their terms do at words out of 1 .. width
 pub sum_words-same_letters : (width k : ℕ) (f g : List ℕ → ℤ) → ((u : List ℕ) → length u ≡ k → All (IsLetter width) u → f u ≡ g u) → sum_words width k f ≡ sum_words width k g
 sum_words-same_letters width zero f g same = same [] refl (All-nil (IsLetter width))
 sum_words-same_letters width (suc k) f g same =
@@ -36,6 +42,7 @@ sum_words-same_letters width (suc k) f g same =
     (λ i h. sum_words-same_letters width k (λ u. f (suc i ∷ u)) (λ u. g (suc i ∷ u))
     (λ u e all. same (suc i ∷ u) (ap suc e) (All-cons (IsLetter width) (suc i) u (omega arith, omega arith) all)))
 
+-- a finite sum and a sum over words, in either order
 pub exchange_words : (n width k : ℕ) (g : ℕ → List ℕ → ℤ) → sum_below n (λ i. sum_words width k (g i)) ≡ sum_words width k (λ u. sum_below n (λ i. g i u))
 exchange_words n width zero g = refl
 exchange_words n width (suc k) g =
@@ -44,10 +51,14 @@ exchange_words n width (suc k) g =
     (λ j h. exchange_words n width k (λ i u. g i (suc j ∷ u)))
 
 -- ---- the image of a word
+-- the letters are members of the list under their own numbers
 pub record HasLetters (width : ℕ) (hall : List Member) : Type 0 where
+  -- each letter is the number of a member
   pub inside : (a : ℕ) → IsLetter width a → InHall hall a
+  -- and this member is a letter
   pub letters : (a : ℕ) → IsLetter width a → member hall a ≡ Letter
 
+-- one letter more, by whether the word before was empty
 image-terms-with : (width depth : ℕ) (hall : List Member) → IsHall depth hall → HasLetters width hall → (a : ℕ) (u : List ℕ) (rest : List Term) → IsLetter width a
     → (1 ≤ length u → All (IsTermOf hall (length u)) rest) → All (IsTermOf hall (suc (length u))) (image_with (bracket depth hall) a u rest)
 image-terms-with width depth hall ok letters a [] rest ha before =
@@ -58,6 +69,7 @@ image-terms-with width depth hall ok letters a (b ∷ u) rest ha before =
     (λ c hc dc. subst (λ (k : ℕ). All (IsTermOf hall k) (bracket depth hall a c)) (let s : degree hall a + degree hall c ≡ suc (suc (length u)) = omega arith in s)
     (bracket-terms depth hall ok a c (letters.inside a ha) hc))
 
+-- the image of a word has members of as many letters as the word alone
 pub image-terms : (width depth : ℕ) (hall : List Member) → IsHall depth hall → HasLetters width hall → (u : List ℕ) → All (IsLetter width) u
     → All (IsTermOf hall (length u)) (image (bracket depth hall) u)
 image-terms width depth hall ok letters [] all = All-nil (IsTermOf hall 0)
@@ -65,9 +77,11 @@ image-terms width depth hall ok letters (a ∷ u) all =
     image-terms-with width depth hall ok letters a u (image (bracket depth hall) u) (All-head (IsLetter width) a u all)
     (λ some. image-terms width depth hall ok letters u (All-tail (IsLetter width) a u all))
 
+-- each letter expands to itself
 abbrev pub LetterExpansions : ℕ → (ℕ → List ℕ → ℤ) → Type 0
 LetterExpansions width e = (a : ℕ) → IsLetter width a → (w : List ℕ) → e a w ≡ letter a w
 
+-- the same for expansions
 image-expands-with : (width depth : ℕ) (hall : List Member) (e : ℕ → List ℕ → ℤ) → IsHall depth hall → HasLetters width hall → Expansions hall e → LetterExpansions width e
     → (a : ℕ) (u : List ℕ) → All (IsLetter width) (a ∷ u) → length (a ∷ u) ≤ depth
     → ((w : List ℕ) → 1 ≤ length u → expanded e (image (bracket depth hall) u) w ≡ right_normed u w)
@@ -95,14 +109,11 @@ image-expands width depth hall e ok letters ex lex (a ∷ u) all short w =
     image-expands-with width depth hall e ok letters ex lex a u all short
     (λ v some. image-expands width depth hall e ok letters ex lex u (All-tail (IsLetter width) a u all) (omega arith) v) w
 
--- ---- a sum of terms by the members
-abbrev pub at_degree : List Member → ℕ → (ℕ → ℤ) → ℕ → ℤ
-at_degree hall k f h = cond (eqb (degree hall h) k) (f h) (pos 0)
-
 pub expanded-at : (e : ℕ → List ℕ → ℤ) (ts : List Term) (w : List ℕ) → expanded (λ h v. e h w) ts [] ≡ expanded e ts w
 expanded-at e [] w = refl
 expanded-at e (t ∷ ts) w = ap (λ (z : ℤ). (t.factor *ℤ e t.number w) +ℤ z) (expanded-at e ts w)
 
+-- members of other degrees have no factor, so they needn't be tested
 member-cell : (hall : List Member) (k h : ℕ) (ts : List Term) (x : ℤ) → All (IsTermOf hall k) ts → cond (eqb (degree hall h) k) (coefficient h ts *ℤ x) (pos 0) ≡ coefficient h ts *ℤ x
 member-cell hall k h ts x all =
     elim (cases_eq (degree hall h) k) [

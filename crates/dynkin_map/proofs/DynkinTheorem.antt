@@ -1,41 +1,34 @@
 -- The Dynkin theorem: the Hall coordinates of a series that vanishes on shuffles, expanded, are k times the series.
-use Rattle.std.proofs.Common.{◌≡◌, inl, inr, ℕ, zero, suc, ◌-◌, ◌≤◌, ◌^◌, refl, sym, ap, ap₂, ◌∙◌, subst, arith, ℤ, pos, ◌+ℤ◌, ◌*ℤ◌, List, [], ◌∷◌, ◌++◌, length, eqb, cond}
-use Rattle.std.specs.Prelude.{All, Bool, true, negsuc}
-use Rattle.std.proofs.lemmas.Bool.{eq-eqb, ne_eqb, cases_eq, cases_Bool}
+use Rattle.std.proofs.Common.{◌≡◌, inl, inr, ℕ, zero, suc, ◌-◌, ◌≤◌, ◌^◌, refl, sym, ap, ap₂, ◌∙◌, arith, ℤ, pos, ◌+ℤ◌, ◌*ℤ◌, List, [], ◌∷◌, length, eqb, cond}
+use Rattle.std.specs.Prelude.{All, Bool}
+use Rattle.std.proofs.lemmas.Bool.{eq-eqb, ne_eqb, cases_eq}
 use Rattle.std.proofs.Math.IntN.{*ℤ-zero}
 use Rattle.std.proofs.lemmas.List.Elements.{All-weaker}
 use Rattle.definitions.specs.Words.{Extent, IsLetter, IsWord}
 use Rattle.definitions.specs.Sums.{sum_below}
 use Rattle.definitions.specs.Commutators.{VanishesAt}
-use Rattle.definitions.proofs.Integers.{zero-mul_ℤ}
 use Rattle.definitions.proofs.SumLaws.{sum_below-same}
-use Rattle.hall_set.specs.Hall.{InHall, hall_list, degree, expansion}
-use Rattle.hall_set.specs.declared.member.Member.{Member}
+use Rattle.definitions.specs.Hall.{InHall, hall_list, degree, expansion}
+use Rattle.definitions.specs.declared.member.Member.{Member}
 use Rattle.hall_set.proofs.GrownLists.{IsHall, hall_list-IsHall}
-use Rattle.lie_bracket.specs.declared.term.Term.{Term}
 use Rattle.lie_bracket.specs.Brackets.{term, coefficient, expanded, bracket}
 use Rattle.lie_bracket.specs.Tables.{is_zero, nonzero}
-use Rattle.lie_bracket.proofs.NonzeroLaws.{is_zero-true, nonzero-same, nonzero-Numbers}
+use Rattle.lie_bracket.proofs.NonzeroLaws.{nonzero-same, nonzero-Numbers}
 use Rattle.lie_bracket.proofs.TermSums.{expanded-append}
-use Rattle.lie_bracket.proofs.Expansions.{IsPart, expansion-IsPart, expansion-Expansions}
-use Rattle.dynkin_map.specs.Coordinates.{image, sum_members, coordinate, coordinates}
-use Rattle.dynkin_map.proofs.CoordinateLaws.{add-zero_ℤ, sum_words-same_letters, coordinates-expand}
+use Rattle.lie_steps.proofs.Expansions.{IsPart, expansion-IsPart}
+use Rattle.lie_bracket.proofs.Expansions.{expansion-Expansions}
+use Rattle.dynkin_map.specs.Coordinates.{image, coordinate, coordinates}
+use Rattle.dynkin_map.proofs.CoordinateLaws.{sum_words-same_letters, coordinates-expand, sum_members}
 use Rattle.dynkin_map.proofs.Letters.{hall_list-HasLetters, hall_list-LetterExpansions}
+use Rattle.lie_bracket.proofs.MoveTerms.{expanded-one}
 
--- the last entry's part
-last-expanded : (e : ℕ → List ℕ → ℤ) (z : ℤ) (h : ℕ) (w : List ℕ) → expanded e (cond (is_zero z) [] (term z h ∷ [])) w ≡ z *ℤ e h w
-last-expanded e z h w =
-    elim (cases_Bool (is_zero z)) [
-      | inl none ↦ ap (λ (b : Bool). expanded e (cond b [] (term z h ∷ [])) w) none ∙ sym (ap (λ (k : ℤ). k *ℤ e h w) (is_zero-true z none) ∙ zero-mul_ℤ (e h w))
-      | inr some ↦ ap (λ (b : Bool). expanded e (cond b [] (term z h ∷ [])) w) some ∙ add-zero_ℤ (z *ℤ e h w)
-    ]
-
+-- the list of the factors that aren't 0 expands to the sum over all numbers
 pub expanded-nonzero : (e : ℕ → List ℕ → ℤ) (n : ℕ) (f : ℕ → ℤ) (w : List ℕ) → expanded e (nonzero n f) w ≡ sum_below n (λ i. f (suc i) *ℤ e (suc i) w)
 unfolding sum_below
 expanded-nonzero e zero f w = refl
 expanded-nonzero e (suc n) f w =
     expanded-append e (nonzero n f) (cond (is_zero (f (suc n))) [] (term (f (suc n)) (suc n) ∷ [])) w
-    ∙ ap₂ ◌+ℤ◌ (expanded-nonzero e n f w) (last-expanded e (f (suc n)) (suc n) w)
+    ∙ ap₂ ◌+ℤ◌ (expanded-nonzero e n f w) (expanded-one e (f (suc n)) (suc n) w)
 
 -- a word meets the members of its degree alone
 by-degree : (width depth : ℕ) → 1 ≤ depth → (f : ℕ → ℤ) (w : List ℕ)
@@ -80,6 +73,7 @@ coordinates-same extent s t deep same =
     (λ u len letters. ap (λ (z : ℤ). z *ℤ coefficient h (image (bracket extent.depth hall) u)) (same u (record { short = omega (arith, len, topped); letters = letters }))))
 
 -- ---- the numbers of coordinates
+-- the numbers of coordinates are those of members
 pub coordinates-members : (extent : Extent) (s : List ℕ → ℤ) → All (λ t. InHall (hall_list extent.width extent.depth) t.number) (coordinates extent s)
 unfolding coordinates
 coordinates-members extent s =

@@ -11,6 +11,7 @@ use Rattle.definitions.specs.Logarithm.{log_bound}
 use Rattle.dynkin_map.specs.Coordinates.{lie_bound, lie_bounds}
 use Rattle.dynkin_map.specs.Table.{growth_of}
 
+-- no bound of a logarithm is 0, for degrees from 1 to 8
 pub log_bound-some : (k : ℕ) → k < 8 → 1 ≤ log_bound (suc k)
 unfolding log_bound count_below
 log_bound-some zero h = omega arith
@@ -30,10 +31,12 @@ factors_to f n = map f (up_to n)
 factors_to-next : (f : ℕ → ℕ) (n : ℕ) → factors_to f (suc n) ≡ factors_to f n ++ f (suc n) ∷ []
 factors_to-next f n = map-append f (up_to n) (suc n ∷ [])
 
+-- there are n of them
 pub length-factors_to : (f : ℕ → ℕ) (n : ℕ) → length (factors_to f n) ≡ n
 length-factors_to f zero = refl
 length-factors_to f (suc n) = ap length (factors_to-next f n) ∙ omega (arith, length-append (factors_to f n) (f (suc n) ∷ []), length-factors_to f n)
 
+-- the factor at i is that of degree i + 1
 pub factors_to-at : (f : ℕ → ℕ) (n i : ℕ) → i < n → get_or (factors_to f n) i 0 ≡ f (suc i)
 factors_to-at f zero i h = absurd (omega arith)
 factors_to-at f (suc n) i h =
@@ -53,6 +56,7 @@ factors_to-step f factors k n here least front some en = (
   All-set (λ m. 1 ≤ m) factors k n least some,
 )
 
+-- no factor is 0
 pub lie_bound-some : (extent : Extent) (k : ℕ) → k < 8 → 1 ≤ lie_bound extent (suc k)
 lie_bound-some extent k small =
     let some : 1 ≤ max 1 (growth_of extent (suc k)) = omega arith in

@@ -7,8 +7,8 @@ use Rattle.definitions.specs.Words.{words_of}
 use Rattle.definitions.specs.Sums.{sum_below, count_below}
 use Rattle.definitions.specs.Commutators.{sum_words}
 use Rattle.definitions.proofs.SumLaws.{sum_below-same, count_below-le, count_below-mul}
-use Rattle.hall_set.specs.Hall.{InHall, degree}
-use Rattle.hall_set.specs.declared.member.Member.{Member}
+use Rattle.definitions.specs.Hall.{InHall, degree}
+use Rattle.definitions.specs.declared.member.Member.{Member}
 use Rattle.lie_bracket.specs.declared.term.Term.{Term}
 use Rattle.lie_bracket.specs.Brackets.{scaled, over_terms, coefficient, bracket, majorant}
 use Rattle.lie_bracket.specs.Entries.{size_at}
@@ -22,6 +22,7 @@ image-size-with : (plus rest : ℕ → ℕ → List Term) → Sizes plus rest �
 image-size-with plus rest same a [] x y e = refl
 image-size-with plus rest same a (b ∷ u) x y e = ap (λ (z : List Term). over_terms z (plus a)) e ∙ over-size y (rest a) (plus a) (same a)
 
+-- by the majorant the image of a word is that by the bracket with all factors made absolute
 pub image-size : (plus rest : ℕ → ℕ → List Term) → Sizes plus rest → (u : List ℕ) → image plus u ≡ scaled size (image rest u)
 image-size plus rest same [] = refl
 image-size plus rest same (a ∷ u) = image-size-with plus rest same a u (image plus u) (image rest u) (image-size plus rest same u)
@@ -31,12 +32,14 @@ pub majorant-coefficient : (depth : ℕ) (hall : List Member) (h : ℕ) (u : Lis
 majorant-coefficient depth hall h u =
     ap (coefficient h) (image-size (majorant depth hall) (bracket depth hall) (majorant-size depth hall) u) ∙ coefficient-size h (image (bracket depth hall) u)
 
+-- a sum of naturals, as integers
 pub sum_below-pos : (n : ℕ) (g : ℕ → ℕ) → sum_below n (λ i. pos (g i)) ≡ pos (count_below n g)
 unfolding sum_below count_below
 sum_below-pos zero g = refl
 sum_below-pos (suc n) g = ap (λ (z : ℤ). z +ℤ pos (g n)) (sum_below-pos n g)
 
 -- ---- the growth
+-- no value at a member of degree k is above the greatest
 pub le-greatest_member : (hall : List Member) (k : ℕ) (f : ℕ → ℕ) (n h : ℕ) → 1 ≤ h → h ≤ n → degree hall h ≡ k → f h ≤ greatest_member hall k f n
 le-greatest_member hall k f zero h least most e = absurd (omega arith)
 le-greatest_member hall k f (suc n) h least most e =

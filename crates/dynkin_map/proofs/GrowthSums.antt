@@ -10,8 +10,8 @@ use Rattle.definitions.specs.Commutators.{sum_words}
 use Rattle.definitions.proofs.Integers.{zero-mul_ℤ}
 use Rattle.definitions.proofs.SumLaws.{sum_below-same, count_below-le}
 use Rattle.shuffle.proofs.DualLaws.{sum_words-same, sum_words-mul}
-use Rattle.hall_set.specs.Hall.{InHall, degree}
-use Rattle.hall_set.specs.declared.member.Member.{Member}
+use Rattle.definitions.specs.Hall.{InHall, degree}
+use Rattle.definitions.specs.declared.member.Member.{Member}
 use Rattle.hall_set.proofs.GrownLists.{hall_list-IsHall}
 use Rattle.hall_set.proofs.Sizes.{hall_list-short}
 use Rattle.lie_bracket.specs.declared.term.Term.{Term}
@@ -32,6 +32,7 @@ use Rattle.dynkin_map.proofs.GrowthBounds.{image-size, le-greatest_member}
 use Rattle.dynkin_map.proofs.CoordinateSteps.{members_of}
 use Rattle.dynkin_map.proofs.LongerWords.{image-longer, terms-Numbers, count_below-all}
 
+-- the majorants of the members of a shape
 abbrev pub majorants_of : Extent → ℕ → ℕ → List Term
 majorants_of extent = majorant extent.depth (members_of extent)
 
@@ -67,6 +68,7 @@ top-append : (xs ys : List Term) → top (xs ++ ys) ≡ max (top xs) (top ys)
 top-append [] ys = omega arith
 top-append (t ∷ xs) ys = omega (arith, top-append xs ys)
 
+-- the greatest factor of one term that stands where it isn't 0
 last-top : (z : ℤ) (n : ℕ) → top (cond (is_zero z) [] (term z n ∷ [])) ≡ unsigned_abs z
 last-top z n =
     elim (cases_Bool (is_zero z)) [
@@ -93,6 +95,7 @@ sum-other extent k h deep other =
     (λ u len letters. coefficient-other h (members_of extent) (length u) (image (majorants_of extent) u) (majorant-terms extent u deep letters) (λ e. other (e ∙ len)))
     ∙ sum_words-mul extent.width k (pos 0) (λ u. pos 0) ∙ zero-mul_ℤ (sum_words extent.width k (λ u. pos 0))
 
+-- the greatest factor of the sum over the words of k letters is the growth of degree k
 pub growth-top : (extent : Extent) (k : ℕ) → 1 ≤ extent.depth → top (nonzero (length (members_of extent)) (majorant_sum extent k)) ≡ growth_of extent k
 unfolding growth
 growth-top extent k deep = top-members (members_of extent) k (majorant_sum extent k) (λ h other. sum-other extent k h deep other) (length (members_of extent))
@@ -106,6 +109,7 @@ sum-within extent k h deep inside =
       | inr other ↦ omega (arith, ap unsigned_abs (sum-other extent k h deep other))
     ]
 
+-- where the growth is at most 2 ^ 40, the whole sum has at most 50 bits, since there are at most 1024 members
 pub sum-sizes : (extent : Extent) (k : ℕ) → IsShape extent → growth_of extent k ≤ 2 ^ 40 → sizes (nonzero (length (members_of extent)) (majorant_sum extent k)) ≤ 2 ^ 50
 sum-sizes extent k shape small =
     let n : ℕ = length (members_of extent) in
@@ -115,11 +119,16 @@ sum-sizes extent k shape small =
     omega (arith, sizes-nonzero n (majorant_sum extent k), each, count_below-all n (2 ^ 40), mul-le-mul_right (2 ^ 40) few)
 
 -- ---- one growth more
+-- the growths of the degrees 1 to k are known, and at most 2 ^ 40
 pub record AreGrowthsTo (extent : Extent) (growths : List ℕ) (k : ℕ) : Type 0 where
+  -- there is a place for each of eight degrees
   pub eight : length growths ≡ 8
+  -- that of degree j stands at j - 1
   pub values : (j : ℕ) → 1 ≤ j → j ≤ k → get_or growths (j - 1) 0 ≡ growth_of extent j
+  -- none is above 2 ^ 40
   pub small : (j : ℕ) → 1 ≤ j → j ≤ k → growth_of extent j ≤ 2 ^ 40
 
+-- the growth of one degree more
 pub growths-more : (extent : Extent) (growths : List ℕ) (k n : ℕ) → k < 8 → AreGrowthsTo extent growths k → n ≡ growth_of extent (k + 1) → n ≤ 2 ^ 40 → AreGrowthsTo extent (set growths k n) (k + 1)
 growths-more extent growths k n within are e small =
     record {

@@ -10,6 +10,7 @@ use Rattle.dynkin_map.specs.Coordinates.{heavy_level}
 use Rattle.dynkin_map.specs.Table.{growth_of}
 use Rattle.dynkin_map.specs.Faults.{IsPastLevel}
 
+-- the last number is tried after all others
 find-next : (p : ℕ → Bool) (n : ℕ) → find p (up_to (suc n)) ≡ option_or (find p (up_to n)) (cond (p (suc n)) (Some (suc n)) None)
 find-next p n = find-append p (up_to n) (suc n ∷ [])
 

@@ -2,9 +2,9 @@
 use Rattle.std.proofs.Common.{◌≡◌, ℕ, zero, suc, ◌-◌, ap, ◌∙◌, arith, ℤ, List, replicate, length-append}
 use Rattle.std.proofs.lemmas.List.{get_or-replicate, length-replicate}
 use Rattle.definitions.specs.Words.{IsLetter}
-use Rattle.hall_set.specs.Hall.{InHall, member, grown, hall_list, pairs_of, expansion}
-use Rattle.hall_set.specs.declared.member.Member.{Member}
-use Rattle.hall_set.specs.declared.member.Member.TheVariants.{Letter, Pair}
+use Rattle.definitions.specs.Hall.{InHall, member, grown, hall_list, pairs_of, expansion}
+use Rattle.definitions.specs.declared.member.Member.{Member}
+use Rattle.definitions.specs.declared.member.Member.TheVariants.{Letter, Pair}
 use Rattle.hall_set.proofs.GrownLists.{member-old}
 use Rattle.hall_set.proofs.Folds.{expansion-letter}
 use Rattle.dynkin_map.proofs.CoordinateLaws.{HasLetters, LetterExpansions}
@@ -20,8 +20,10 @@ letters-grown width (suc n) a h =
     let more : List Member = pairs_of (grown width n) (suc (suc n)) in
     (record { least = before.0.least; most = omega (arith, before.0.most, length-append (grown width n) more) }, member-old (grown width n) more a before.0 ∙ before.1)
 
+-- each Hall list has its letters under their own numbers
 pub hall_list-HasLetters : (width depth : ℕ) → HasLetters width (hall_list width depth)
 hall_list-HasLetters width depth = record { inside = λ a h. (letters-grown width (depth - 1) a h).0; letters = λ a h. (letters-grown width (depth - 1) a h).1 }
 
+-- and they expand to themselves
 pub hall_list-LetterExpansions : (width depth : ℕ) → LetterExpansions width (expansion (hall_list width depth))
 hall_list-LetterExpansions width depth a h w = ap (λ (f : List ℕ → ℤ). f w) (expansion-letter (hall_list width depth) a ((letters-grown width (depth - 1) a h).1))

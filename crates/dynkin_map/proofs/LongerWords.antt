@@ -9,8 +9,8 @@ use Rattle.definitions.specs.Sums.{count_below}
 use Rattle.definitions.proofs.SumLaws.{sum_below-same, count_below-le, term-le-count_below}
 use Rattle.definitions.proofs.WordLaws.{number-lt}
 use Rattle.definitions.proofs.WordLists.{word-of-number}
-use Rattle.hall_set.specs.Hall.{InHall, degree}
-use Rattle.hall_set.specs.declared.member.Member.{Member}
+use Rattle.definitions.specs.Hall.{InHall, degree}
+use Rattle.definitions.specs.declared.member.Member.{Member}
 use Rattle.hall_set.proofs.GrownLists.{hall_list-IsHall}
 use Rattle.hall_set.proofs.Sizes.{hall_list-short}
 use Rattle.lie_bracket.specs.declared.term.Term.{Term}
@@ -27,23 +27,29 @@ use Rattle.dynkin_map.proofs.Letters.{hall_list-HasLetters}
 use Rattle.dynkin_map.proofs.GrowthBounds.{sizes-growth}
 use Rattle.dynkin_map.proofs.CoordinateSteps.{members_of, at_image, row-Numbers, image-other}
 
+-- the brackets of the members of a shape
 abbrev pub brackets_of : Extent → ℕ → ℕ → List Term
 brackets_of extent = bracket extent.depth (members_of extent)
 
+-- the image of a letter before a nonempty word is the bracket of the letter with the image of the word
 pub image-longer : (br : ℕ → ℕ → List Term) (a : ℕ) (u : List ℕ) → 1 ≤ length u → image br (a ∷ u) ≡ over_terms (image br u) (br a)
 image-longer br a [] some = absurd (omega arith)
 image-longer br a (b ∷ u) some = refl
 
+-- each letter is the number of a member
 pub letter-inside : (extent : Extent) (a : ℕ) → IsLetter extent.width a → InHall (members_of extent) a
 letter-inside extent a h = (hall_list-HasLetters extent.width extent.depth).inside a h
 
+-- so is the number of the term of a letter
 pub letter-Numbers : (extent : Extent) (n a : ℕ) → IsLetter extent.width a → n ≡ length (members_of extent) → Numbers n (term (pos 1) a ∷ [])
 letter-Numbers extent n a h e =
     All-cons (λ t. (1 ≤ t.number) × (t.number ≤ n)) (term (pos 1) a) [] (h.0, omega (arith, e, (letter-inside extent a h).most)) (All-nil (λ (t : Term). (1 ≤ t.number) × (t.number ≤ n)))
 
+-- numbers of members, as the Hall list says it
 pub numbers-inside : (hall : List Member) (ts : List Term) → Numbers (length hall) ts → All (λ t. InHall hall t.number) ts
 numbers-inside hall ts all = All-weaker (λ t. (1 ≤ t.number) × (t.number ≤ length hall)) (λ t. InHall hall t.number) (λ t h. record { least = h.0; most = h.1 }) ts all
 
+-- terms of members have their numbers
 pub terms-Numbers : (hall : List Member) (k : ℕ) (ts : List Term) → All (IsTermOf hall k) ts → Numbers (length hall) ts
 terms-Numbers hall k ts all = All-weaker (IsTermOf hall k) (λ t. (1 ≤ t.number) × (t.number ≤ length hall)) (λ t h. (h.inside.least, h.inside.most)) ts all
 
@@ -86,11 +92,13 @@ image-within : (extent : Extent) (h : ℕ) (word : List ℕ) → 1 ≤ extent.de
 image-within extent h [] deep inside letters small = omega arith
 image-within extent h (a ∷ word) deep inside letters small = omega (arith, image-small extent h (a ∷ word) deep inside letters, small (omega arith))
 
+-- the sum of n times the same number
 pub count_below-all : (n c : ℕ) → count_below n (λ i. c) ≡ n * c
 unfolding count_below
 count_below-all zero c = omega arith
 count_below-all (suc n) c = omega (arith, count_below-all n c)
 
+-- a row has a size of at most 2 ^ 50, where the growth of its word's length is at most 2 ^ 40
 pub row-sizes : (extent : Extent) (k : ℕ) (word : List ℕ) → IsShape extent → All (IsLetter extent.width) word → length word ≡ k → (1 ≤ k → growth_of extent k ≤ 2 ^ 40) → sizes (row_of extent word) ≤ 2 ^ 50
 row-sizes extent k word shape letters len small =
     let n : ℕ = length (members_of extent) in

@@ -9,9 +9,11 @@ use Rattle.definitions.proofs.WordLaws.{shorter_part}
 use Rattle.definitions.proofs.WordLists.{length-words_of}
 use Rattle.lie_bracket.specs.declared.term.Term.{Term}
 use Rattle.lie_bracket.specs.Tables.{nonzero}
-use Rattle.dynkin_map.specs.Table.{words_below, row_of}
+use Rattle.definitions.specs.AllWords.{words_below}
+use Rattle.definitions.proofs.AllWords.{length-words_below, words_below-at}
+use Rattle.dynkin_map.specs.Table.{row_of}
 use Rattle.dynkin_map.proofs.Factors.{length-factors_to}
-use Rattle.dynkin_map.proofs.CoordinateSteps.{members_of, length-words_below, words_below-at}
+use Rattle.dynkin_map.proofs.CoordinateSteps.{members_of}
 
 -- one row more
 pub row-pushed : (r : List ℕ → List Term) (g : List ℕ → List ℕ) (ws : List (List ℕ)) (i : ℕ) (old rows new : List (List Term)) (z : List Term) → i < length ws → rows ≡ old ++ map r (map g (take i ws))
@@ -51,19 +53,24 @@ length-first width k n r = length-map (flat_map (words_with width k) (up_to n)) 
 
 -- the rows of all words of k letters at most, and those of one letter more for the first letters up to n
 pub record AreFirst (extent : Extent) (k n from : ℕ) (old rows : List (List Term)) : Type 0 where
+  -- what stood before: all words of k letters at most
   pub old_is : old ≡ map (row_of extent) (words_below extent.width (suc k))
+  -- the new rows follow them, a letter 1 .. n before each word of k letters
   pub rows_are : rows ≡ old ++ map (row_of extent) (flat_map (words_with extent.width k) (up_to n))
+  -- where the rows of the words of k letters begin
   pub from_is : from ≡ shorter extent.width k
 
 length-old : (extent : Extent) (k n from : ℕ) (old rows : List (List Term)) → AreFirst extent k n from old rows → length old ≡ shorter extent.width k + extent.width ^ k
 length-old extent k n from old rows are =
     ap (λ (xs : List (List Term)). length xs) are.old_is ∙ length-map (words_below extent.width (suc k)) (row_of extent) ∙ length-words_below extent.width (suc k)
 
+-- the rows of the words of k letters are there
 pub first-inside : (extent : Extent) (k n from : ℕ) (old rows : List (List Term)) → AreFirst extent k n from old rows → from + extent.width ^ k ≤ length rows
 first-inside extent k n from old rows are =
     let more : List (List Term) = map (row_of extent) (flat_map (words_with extent.width k) (up_to n)) in
     omega (arith, are.from_is, length-old extent k n from old rows are, ap (λ (xs : List (List Term)). length xs) are.rows_are, length-append old more)
 
+-- there are at most 2000 rows
 pub first-short : (extent : Extent) (k n from : ℕ) (old rows : List (List Term)) → IsShape extent → k < extent.depth → n ≤ extent.width → AreFirst extent k n from old rows → length rows ≤ 2000
 first-short extent k n from old rows shape deep most are =
     let more : List (List Term) = map (row_of extent) (flat_map (words_with extent.width k) (up_to n)) in
@@ -81,6 +88,7 @@ first-short extent k n from old rows shape deep most are =
       shape.within_words,
     )
 
+-- the row that is read is that of the i-th word of k letters
 pub first-row : (extent : Extent) (k n from : ℕ) (old rows : List (List Term)) → AreFirst extent k n from old rows → (i : ℕ) → i < extent.width ^ k → get_or rows (from + i) [] ≡ row_of extent (get_or (words_of extent.width k) i [])
 first-row extent k n from old rows are i lt =
     let more : List (List Term) = map (row_of extent) (flat_map (words_with extent.width k) (up_to n)) in
@@ -96,5 +104,6 @@ nonzero-nothing : (n : ℕ) → nonzero n (λ h. pos 0) ≡ []
 nonzero-nothing zero = refl
 nonzero-nothing (suc n) = append-nil (nonzero n (λ h. pos 0)) ∙ nonzero-nothing n
 
+-- the empty word has the first row, which has no terms
 pub empty-row : (extent : Extent) (rows : List (List Term)) → rows ≡ [] ∷ [] → rows ≡ map (row_of extent) (words_below extent.width 1)
 empty-row extent rows e = e ∙ ap (λ (r : List Term). r ∷ []) (sym (nonzero-nothing (length (members_of extent))))

@@ -1,13 +1,12 @@
 -- Sums over the words of one length, by their numbers.
-use Rattle.std.proofs.Common.{◌≡◌, ℕ, zero, suc, ◌+◌, ◌*◌, ◌-◌, ◌<◌, ◌≤◌, ◌^◌, sym, ap, ◌∙◌, arith, ℤ, pos, ◌+ℤ◌, List, [], ◌∷◌, get_or}
-use Rattle.std.proofs.Math.Nat.{pow-suc, pow-zero, mul-le-mul_right}
+use Rattle.std.proofs.Common.{◌≡◌, ℕ, zero, suc, ◌+◌, ◌*◌, ◌^◌, sym, ap, ◌∙◌, arith, ℤ, pos, ◌+ℤ◌, List, [], ◌∷◌, get_or}
+use Rattle.std.proofs.Math.Nat.{pow-suc, pow-zero}
 use Rattle.std.proofs.lemmas.Int.{ints}
-use Rattle.std.proofs.lemmas.List.Elements.{All-cons}
-use Rattle.definitions.specs.Words.{IsLetter, words_of}
+use Rattle.definitions.specs.Words.{words_of}
 use Rattle.definitions.specs.Sums.{sum_below}
 use Rattle.definitions.specs.Commutators.{sum_words}
 use Rattle.definitions.proofs.SumLaws.{sum_below-same}
-use Rattle.definitions.proofs.WordLists.{IsNumbered, word-numbered, word-of-number}
+use Rattle.definitions.proofs.WordLists.{word-at}
 
 -- a sum in two runs
 sum_below-runs : (m n : ℕ) (f : ℕ → ℤ) → sum_below (m + n) f ≡ sum_below m f +ℤ sum_below n (λ j. f (m + j))
@@ -27,18 +26,6 @@ sum_below-places (suc m) n f =
     ∙ sum_below-runs (m * n) n f
     ∙ ap (λ (z : ℤ). z +ℤ sum_below n (λ j. f (m * n + j))) (sum_below-places m n f)
 
-word-parts : (width k i j : ℕ) → i < width → j < width ^ k → get_or (words_of width (suc k)) (i * width ^ k + j) [] ≡ suc i ∷ get_or (words_of width k) j []
-word-parts width k i j hi hj =
-    let u : List ℕ = get_or (words_of width k) j [] in
-    let its : IsNumbered width k j u = word-numbered width k j hj in
-    let room : suc i * width ^ k ≤ width * width ^ k = mul-le-mul_right (width ^ k) hi in
-    word-of-number width (suc k) (i * width ^ k + j) (suc i ∷ u) (omega (arith, room, pow-suc width k))
-    (record {
-      letters = All-cons (IsLetter width) (suc i) u (omega arith, omega arith) its.letters;
-      len = omega (arith, its.len);
-      number_is = rw its.len (let e : suc i - 1 ≡ i = omega arith in omega (arith, its.number_is, ap (λ (n : ℕ). n * width ^ k) e));
-    })
-
 -- a sum over words, by their numbers
 pub sum_words-numbered : (width k : ℕ) (f : List ℕ → ℤ) → sum_words width k f ≡ sum_below (width ^ k) (λ i. f (get_or (words_of width k) i []))
 unfolding sum_below
@@ -47,6 +34,6 @@ sum_words-numbered width zero f =
 sum_words-numbered width (suc k) f =
     sum_below-same width (λ i. sum_words width k (λ u. f (suc i ∷ u))) (λ i. sum_below (width ^ k) (λ j. f (get_or (words_of width (suc k)) (i * width ^ k + j) [])))
     (λ i h. sum_words-numbered width k (λ u. f (suc i ∷ u))
-    ∙ sum_below-same (width ^ k) (λ j. f (suc i ∷ get_or (words_of width k) j [])) (λ j. f (get_or (words_of width (suc k)) (i * width ^ k + j) [])) (λ j l. ap f (sym (word-parts width k i j h l))))
+    ∙ sum_below-same (width ^ k) (λ j. f (suc i ∷ get_or (words_of width k) j [])) (λ j. f (get_or (words_of width (suc k)) (i * width ^ k + j) [])) (λ j l. ap f (sym (word-at width k i j h l))))
     ∙ sym (sum_below-places width (width ^ k) (λ n. f (get_or (words_of width (suc k)) n [])))
     ∙ (let e : width * width ^ k ≡ width ^ suc k = omega (arith, pow-suc width k) in ap (λ (m : ℕ). sum_below m (λ n. f (get_or (words_of width (suc k)) n []))) e)

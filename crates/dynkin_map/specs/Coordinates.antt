@@ -1,11 +1,10 @@
 -- The Dynkin map: iterated brackets of the letters of a word, and Hall coordinates of a series.
 use Rattle.std.specs.Prelude.{ℕ, zero, suc, ◌*◌, ◌^◌, max, List, [], ◌∷◌, map, length, find, Option, eqb, ltb, cond, ℤ, pos, unsigned_abs, ◌*ℤ◌}
 use Rattle.definitions.specs.Words.{Extent, up_to}
-use Rattle.definitions.specs.Sums.{sum_below}
 use Rattle.definitions.specs.Commutators.{sum_words}
 use Rattle.definitions.specs.Logarithm.{log_bound}
-use Rattle.hall_set.specs.Hall.{hall_list, degree}
-use Rattle.hall_set.specs.declared.member.Member.{Member}
+use Rattle.definitions.specs.Hall.{hall_list, degree}
+use Rattle.definitions.specs.declared.member.Member.{Member}
 use Rattle.lie_bracket.specs.declared.term.Term.{Term}
 use Rattle.lie_bracket.specs.Brackets.{term, over_terms, coefficient, bracket, majorant}
 use Rattle.lie_bracket.specs.Tables.{nonzero}
@@ -19,10 +18,6 @@ image_with br a (b ∷ u) rest = over_terms rest (br a)
 abbrev pub image : (ℕ → ℕ → List Term) → List ℕ → List Term
 image br [] = []
 image br (a ∷ u) = image_with br a u (image br u)
-
--- the sum over the members of degree k
-unfoldable pub sum_members : List Member → ℕ → (ℕ → ℤ) → ℤ
-sum_members hall k f = sum_below (length hall) (λ i. cond (eqb (degree hall (suc i)) k) (f (suc i)) (pos 0))
 
 -- the coordinate of a series at h: over k k! lcm_to k for h of degree k and a logarithm
 unfoldable pub coordinate : ℕ → ℕ → List Member → (List ℕ → ℤ) → ℕ → ℤ
@@ -50,5 +45,6 @@ heavy_level extent = find (λ k. ltb (2 ^ 40) (growth extent.width extent.depth 
 abbrev pub lie_bound : Extent → ℕ → ℕ
 lie_bound extent k = log_bound k * max 1 (growth extent.width extent.depth (hall_list extent.width extent.depth) k)
 
+-- the factors of the degrees from 1 to the depth
 abbrev pub lie_bounds : Extent → List ℕ
 lie_bounds extent = map (lie_bound extent) (up_to extent.depth)

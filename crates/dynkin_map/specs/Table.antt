@@ -1,17 +1,13 @@
 -- What a table of the Dynkin map keeps.
-use Rattle.std.specs.Prelude.{◌≡◌, ℕ, zero, suc, ◌-◌, ◌≤◌, ◌^◌, ℤ, List, [], ◌∷◌, ◌++◌, map, length, slice_index_or}
-use Rattle.definitions.specs.Words.{Extent, IsShape, words_of}
+use Rattle.std.specs.Prelude.{◌≡◌, ℕ, suc, ◌-◌, ◌≤◌, ◌^◌, ℤ, List, ◌∷◌, map, length, slice_index_or}
+use Rattle.definitions.specs.Words.{Extent, IsShape}
+use Rattle.definitions.specs.AllWords.{words_below}
 use Rattle.definitions.specs.Commutators.{sum_words}
-use Rattle.hall_set.specs.Hall.{hall_list}
+use Rattle.definitions.specs.Hall.{hall_list}
 use Rattle.lie_bracket.specs.declared.term.Term.{Term}
 use Rattle.lie_bracket.specs.Brackets.{coefficient, bracket, majorant}
 use Rattle.lie_bracket.specs.Tables.{nonzero}
 use Rattle.dynkin_map.specs.Coordinates.{image, growth}
-
--- the words of fewer than k letters, by length and then in lexicographic order
-abbrev pub words_below : ℕ → ℕ → List (List ℕ)
-words_below width zero = []
-words_below width (suc k) = words_below width k ++ words_of width k
 
 -- the image of a word, by its nonzero coefficients
 abbrev pub row_of : Extent → List ℕ → List Term

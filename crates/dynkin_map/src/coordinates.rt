@@ -2,10 +2,11 @@
 ghost use Rattle.std.specs.Prelude.{◌≡◌, ◌≤◌, ◌<◌, suc, pos, map, length, EachIndex, IfOk, slice_index_or, unsigned_abs};
 ghost use Rattle.definitions.specs.Words.{IsShape};
 ghost use Rattle.definitions.specs.Signature.{limit, Fits};
-ghost use Rattle.hall_set.specs.Hall.{hall_list};
+ghost use Rattle.definitions.specs.Hall.{hall_list};
 ghost use Rattle.scaled_tensor.specs.Tensors.{coefficient};
 ghost use Rattle.dynkin_map.specs.Coordinates.{coordinate, coordinates, lie_bounds};
-ghost use Rattle.dynkin_map.specs.Table.{words_below, row_of};
+ghost use Rattle.definitions.specs.AllWords.{words_below};
+ghost use Rattle.dynkin_map.specs.Table.{row_of};
 
 use crate::rows::Rows;
 use crate::sums::add_rows;

@@ -2,7 +2,7 @@
 ghost use Rattle.std.specs.Prelude.{◌≡◌, ◌≤◌, ◌+◌, ◌*◌, ◌^◌, ℕ, suc, pos, ◌+ℤ◌, length, EachIndex, IfOk, IfErr, slice_index_or, unsigned_abs};
 ghost use Rattle.definitions.specs.Words.{IsShape, IsLetter};
 ghost use Rattle.definitions.specs.Signature.{limit};
-ghost use Rattle.hall_set.specs.Hall.{hall_list};
+ghost use Rattle.definitions.specs.Hall.{hall_list};
 ghost use Rattle.lie_bracket.specs.Entries.{sizes};
 ghost use Rattle.lie_bracket.specs.Tables.{nonzero};
 ghost use Rattle.dynkin_map.specs.Table.{majorant_sum, majorant_sum_with, AreGrowths};

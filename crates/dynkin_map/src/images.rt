@@ -2,11 +2,12 @@
 ghost use Rattle.std.specs.Prelude.{◌≡◌, ◌≤◌, ◌<◌, ◌+◌, ◌^◌, ◌++◌, ◌∷◌, [], List, ℕ, suc, pos, map, flat_map, All, length, EachIndex, IfOk, OnOk, slice_index_or, unsigned_abs};
 ghost use Rattle.definitions.specs.Words.{IsShape, IsLetter, words_of, shorter};
 ghost use Rattle.definitions.specs.Signature.{limit};
-ghost use Rattle.hall_set.specs.Hall.{InHall, hall_list};
+ghost use Rattle.definitions.specs.Hall.{InHall, hall_list};
 ghost use Rattle.lie_bracket.specs.Brackets.{coefficient, bracket};
 ghost use Rattle.lie_bracket.specs.Entries.{sizes};
 ghost use Rattle.dynkin_map.specs.Coordinates.{image};
-ghost use Rattle.dynkin_map.specs.Table.{row_of, growth_of, words_below};
+ghost use Rattle.definitions.specs.AllWords.{words_below};
+ghost use Rattle.dynkin_map.specs.Table.{row_of, growth_of};
 
 use crate::rows::Rows;
 use lie_bracket::{BracketTable, LieElement, Term, add_scaled};

@@ -2,7 +2,7 @@ ghost use Rattle.std.specs.Prelude.{◌≡◌, ◌≤◌, ◌^◌, ℕ, List, po
 ghost use Rattle.definitions.specs.Words.{IsShape, IsWord};
 ghost use Rattle.definitions.specs.Signature.{Fits};
 ghost use Rattle.definitions.specs.Commutators.{VanishesAt};
-ghost use Rattle.hall_set.specs.Hall.{hall_list, expansion};
+ghost use Rattle.definitions.specs.Hall.{hall_list, expansion};
 ghost use Rattle.scaled_tensor.specs.Tensors.{coefficient};
 ghost use Rattle.lie_bracket.specs.Brackets.{expanded};
 ghost use Rattle.dynkin_map.specs.Coordinates.{coordinates, growth, lie_bounds};

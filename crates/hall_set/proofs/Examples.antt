@@ -4,8 +4,8 @@ use Rattle.std.specs.Prelude.{codes}
 use Rattle.std.specs.Fmt.{digits}
 use Rattle.definitions.specs.Sums.{sum_below}
 use Rattle.definitions.specs.Commutators.{commutator, commutator_term}
-use Rattle.hall_set.specs.Hall.{hall_list, number_of, expansion, text_of}
-use Rattle.hall_set.specs.declared.member.Member.TheVariants.{Letter, Pair}
+use Rattle.definitions.specs.Hall.{hall_list, number_of, expansion, text_of}
+use Rattle.definitions.specs.declared.member.Member.TheVariants.{Letter, Pair}
 
 list : hall_list 2 5
     ≡ Letter ∷ Letter ∷ Pair 2 1 2 ∷ Pair 3 1 3 ∷ Pair 3 2 3 ∷ Pair 4 1 4 ∷ Pair 4 2 4 ∷ Pair 4 2 5

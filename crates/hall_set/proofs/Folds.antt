@@ -3,15 +3,16 @@ use Rattle.std.proofs.Common.{◌≡◌, ℕ, zero, suc, ◌+◌, ◌-◌, ◌�
 use Rattle.std.specs.Prelude.{codes}
 use Rattle.std.specs.Fmt.{decimal}
 use Rattle.definitions.specs.Commutators.{letter, commutator}
-use Rattle.hall_set.specs.Hall.{InHall, member, degree, degree_of, folded_with, folded, expansion, bracketed, text_of}
-use Rattle.hall_set.specs.declared.member.Member.{Member}
-use Rattle.hall_set.specs.declared.member.Member.TheVariants.{Letter, Pair}
+use Rattle.definitions.specs.Hall.{InHall, member, degree, degree_of, folded_with, folded, expansion, bracketed, text_of}
+use Rattle.definitions.specs.declared.member.Member.{Member}
+use Rattle.definitions.specs.declared.member.Member.TheVariants.{Letter, Pair}
 use Rattle.hall_set.proofs.GrownLists.{IsHall, IsPairOf}
 
 -- enough steps, and other enough steps
 abbrev SameFrom : {A : Type 0} → List Member → ℕ → ℕ → (ℕ → A) → (ℕ → A) → Type 0
 SameFrom hall n k f g = (h : ℕ) → InHall hall h → degree hall h ≤ n → degree hall h ≤ k → f h ≡ g h
 
+-- once the parents of a member have their values, going down further changes nothing
 with-same : {A : Type 0} (of_letter : ℕ → A) (of_pair : A → A → A) (depth : ℕ) (hall : List Member) (n k : ℕ) (f g : ℕ → A) → IsHall depth hall → SameFrom hall n k f g
     → (h : ℕ) (m : Member) → InHall hall h → member hall h ≡ m → degree hall h ≤ suc n → degree hall h ≤ suc k → folded_with of_letter of_pair f h m ≡ folded_with of_letter of_pair g h m
 with-same of_letter of_pair depth hall n k f g ok same h Letter inside e le le' = refl
@@ -51,19 +52,23 @@ value-pair of_letter of_pair depth hall ok h n i j inside e =
     (folded-same of_letter of_pair depth hall ok (degree hall h - 1) (degree hall j) j p.right_in (omega arith) (omega arith))
 
 -- ---- expansions
+-- a letter expands to itself
 pub expansion-letter : (hall : List Member) (h : ℕ) → member hall h ≡ Letter → expansion hall h ≡ letter h
 unfolding expansion
 expansion-letter hall h e = value-letter letter commutator hall h e
 
+-- a pair expands to the commutator of the expansions of its parents
 pub expansion-pair : (depth : ℕ) (hall : List Member) → IsHall depth hall → (h n i j : ℕ) → InHall hall h → member hall h ≡ Pair n i j → expansion hall h ≡ commutator (expansion hall i) (expansion hall j)
 unfolding expansion
 expansion-pair depth hall ok h n i j inside e = value-pair letter commutator depth hall ok h n i j inside e
 
 -- ---- texts
+-- the text of a letter is its number in decimals
 pub text_of-letter : (hall : List Member) (h : ℕ) → member hall h ≡ Letter → text_of hall h ≡ decimal h
 unfolding text_of
 text_of-letter hall h e = value-letter decimal bracketed hall h e
 
+-- the text of a pair is [x,y] for the texts of its parents
 pub text_of-pair : (depth : ℕ) (hall : List Member) → IsHall depth hall → (h n i j : ℕ) → InHall hall h → member hall h ≡ Pair n i j → text_of hall h ≡ bracketed (text_of hall i) (text_of hall j)
 unfolding text_of
 text_of-pair depth hall ok h n i j inside e = value-pair decimal bracketed depth hall ok h n i j inside e

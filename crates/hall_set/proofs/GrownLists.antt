@@ -6,10 +6,10 @@ use Rattle.std.proofs.lemmas.List.{get_or_append_left, get_or-append_right, get_
 use Rattle.std.proofs.lemmas.List.Elements.{All-weaker, All-get_or, All-replicate, All-map}
 use Rattle.std.proofs.lemmas.List.Kept.{AllPairs-cons, AllPairs-filter}
 use Rattle.definitions.specs.Words.{up_to}
-use Rattle.hall_set.specs.Hall.{InHall, member, degree, degree_of, of_degree, follows, is_taken, pairs_with, pairs_from, pairs_of, grown, hall_list, is_pair, number_of}
-use Rattle.hall_set.specs.Order.{precedes}
-use Rattle.hall_set.specs.declared.member.Member.{Member}
-use Rattle.hall_set.specs.declared.member.Member.TheVariants.{Letter, Pair}
+use Rattle.definitions.specs.Hall.{InHall, member, degree, degree_of, of_degree, follows, is_taken, pairs_with, pairs_from, pairs_of, grown, hall_list, is_pair, number_of}
+use Rattle.definitions.specs.Order.{precedes}
+use Rattle.definitions.specs.declared.member.Member.{Member}
+use Rattle.definitions.specs.declared.member.Member.TheVariants.{Letter, Pair}
 use Rattle.hall_set.proofs.Lists.{All-left, All-right, All-flat_map, All-from_flat_map, All-from_map, All-kept, All-from_kept, All-up_to, up_to-each, AllPairs-nil, AllPairs-append, AllPairs-map, AllPairs-flat_map, All-crossed, up_to-rises}
 use Rattle.hall_set.proofs.Numbers.{IsMissing, number_of-missing, missing-number_of}
 
@@ -23,18 +23,27 @@ of_degree-each : (P : ℕ → Type 0) (hall : List Member) (n : ℕ) → All P (
 of_degree-each P hall n all h inside e =
     up_to-each (λ x. eqb (degree hall x) n ≡ true → P x) (length hall) (All-from_kept P (λ x. eqb (degree hall x) n) (up_to (length hall)) all) h inside.least inside.most (eq-eqb (degree hall h) n e)
 
-of_degree-rises : (hall : List Member) (n : ℕ) → AllPairs (λ a b. a < b) (of_degree hall n)
+pub of_degree-rises : (hall : List Member) (n : ℕ) → AllPairs (λ a b. a < b) (of_degree hall n)
 of_degree-rises hall n = AllPairs-filter (λ a b. a < b) (λ h. eqb (degree hall h) n) (up_to (length hall)) (up_to-rises (length hall))
 
 -- ---- the pairs of one degree
+-- a pair of degree n that a list grows by, whose left parent has degree e
 pub record IsNew (hall : List Member) (n e : ℕ) (m : Member) : Type 0 where
+  -- the number of its left parent
   pub left : ℕ
+  -- the number of its right parent
   pub right : ℕ
+  -- it is the pair of these two
   pub is : m ≡ Pair n left right
+  -- the left parent is a member of the list
   pub left_in : InHall hall left
+  -- so is the right one
   pub right_in : InHall hall right
+  -- the left parent comes before the right one
   pub in_order : left < right
+  -- the left parent has degree e
   pub left_degree : degree hall left ≡ e
+  -- the degrees of both add up to n
   pub sum : n ≡ degree hall left + degree hall right
 
 pairs_with-new : (hall : List Member) (n e i : ℕ) → e ≤ n → InHall hall i → degree hall i ≡ e → All (IsNew hall n e) (pairs_with hall n (n - e) i)
@@ -91,10 +100,12 @@ pairs_of-missing hall n a b ha hb lt da le sum none =
     ]
 
 -- ---- the order: letters come first, and each pair is preceded by all before it
+-- whether m may stand before another member: before a letter only letters, before a pair what precedes it
 abbrev pub Comes : Member → Member → Type 0
 Comes m Letter = m ≡ Letter
 Comes m (Pair n i j) = precedes n i j m ≡ true
 
+-- either of two, where one is true
 or_true : (x : Bool) → (x || true) ≡ true
 or_true true = refl
 or_true false = refl
@@ -103,12 +114,14 @@ or_true false = refl
 before-left : (n i j l r : ℕ) → i < l → Comes (Pair n i j) (Pair n l r)
 before-left n i j l r lt = ap₂ (λ (x y : Bool). ltb n n || x && (y || eqb i l && ltb j r)) (eq-eqb n n refl) (lt-ltb i l lt) ∙ or_true (ltb n n)
 
+-- of two pairs with one left parent the one with the smaller right parent comes first
 before-right : (n i j r : ℕ) → j < r → Comes (Pair n i j) (Pair n i r)
 before-right n i j r lt =
     ap₂ (λ (x y : Bool). ltb n n || x && (ltb i i || y && ltb j r)) (eq-eqb n n refl) (eq-eqb i i refl)
     ∙ ap (λ (x : Bool). ltb n n || (ltb i i || x)) (lt-ltb j r lt)
     ∙ ap (λ (x : Bool). ltb n n || x) (or_true (ltb i i)) ∙ or_true (ltb n n)
 
+-- a member of lower degree comes before a pair
 before-degree : (m : Member) (n i j : ℕ) → degree_of m < n → Comes m (Pair n i j)
 before-degree Letter n i j lt = refl
 before-degree (Pair k l r) n i j lt = ap (λ (x : Bool). x || eqb k n && (ltb l i || eqb l i && ltb r j)) (lt-ltb k n lt)
@@ -154,28 +167,42 @@ pairs_of-ordered hall n ranked =
     (λ i j d lt len. (up_to-rises (n / 2) i j d lt len, (let most : get_or (up_to (n / 2)) j d ≤ n / 2 = All-up_to (λ x. x ≤ n / 2) (n / 2) (λ h l m. m) j d len in omega arith)))
 
 -- ---- a list that is grown
+-- what holds of the parents l and r of the pair of degree n at h: both are earlier members, in order, and their degrees add up to n
 pub record IsPairOf (hall : List Member) (h n l r : ℕ) : Type 0 where
+  -- the left parent is a member
   pub left_in : InHall hall l
+  -- so is the right one
   pub right_in : InHall hall r
+  -- the left parent comes before the right one
   pub in_order : l < r
+  -- the right parent comes before the pair
   pub earlier : r < h
+  -- the degrees of both add up to n
   pub sum : n ≡ degree hall l + degree hall r
 
 -- what brackets, expansions and searches need of a Hall list whose members have at most this degree
 pub record IsHall (depth : ℕ) (hall : List Member) : Type 0 where
+  -- each degree is at least 1
   pub positive : (h : ℕ) → InHall hall h → 1 ≤ degree hall h
+  -- and at most the depth
   pub topped : (h : ℕ) → InHall hall h → degree hall h ≤ depth
+  -- degrees never fall along the list
   pub ranked : IsRanked hall
+  -- the parents of a pair are earlier members, and their degrees add up to its own
   pub pairs : (h n l r : ℕ) → InHall hall h → member hall h ≡ Pair n l r → IsPairOf hall h n l r
+  -- a pair a < b within the depth that isn't in the list has a right parent whose own left parent is after a
   pub complete : (a b : ℕ) → InHall hall a → InHall hall b → a < b → degree hall a + degree hall b ≤ depth → number_of hall a b ≡ 0 → IsLate a (member hall b)
+  -- members stand in the order of letters, degrees, left parents and right parents
   pub ordered : AllPairs Comes hall
 
 -- ---- members by their places
+-- what stands at the place h - 1 is the member h, whatever default it is read with
 pub member-read : (hall : List Member) (h : ℕ) (d m : Member) → InHall hall h → get_or hall (h - 1) d ≡ m → member hall h ≡ m
 member-read hall zero d m inside e = absurd (omega (arith, inside.least))
 member-read hall (suc k) d m inside e =
     get_or_default hall k (Pair 0 0 0) d (omega (arith, inside.most)) ∙ (let one : k ≡ suc k - 1 = omega arith in ap (λ (i : ℕ). get_or hall i d) one) ∙ e
 
+-- members keep their numbers when a list grows at its end
 pub member-old : (hall new : List Member) (h : ℕ) → InHall hall h → member (hall ++ new) h ≡ member hall h
 member-old hall new zero inside = absurd (omega (arith, inside.least))
 member-old hall new (suc i) inside = get_or_append_left hall new (Pair 0 0 0) i (omega (arith, inside.most))
@@ -207,11 +234,13 @@ letters-IsHall width =
       ordered = letters-ordered width;
     }
 
+-- a member that the list grew by, as a pair of the old list
 record IsLater (hall : List Member) (n : ℕ) (all : List Member) (h : ℕ) : Type 0 where
   after : length hall < h
   of_degree : ℕ
   new : IsNew hall n of_degree (member all h)
 
+-- a member of the grown list is old or new
 abbrev Side : List Member → ℕ → List Member → ℕ → Type 0
 Side hall n all h = InHall hall h ⊎ IsLater hall n all h
 
@@ -263,6 +292,7 @@ pair-later hall new k h n l r later e =
       sum = en ∙ later.new.sum ∙ ap₂ (λ (x y : ℕ). degree hall x + degree hall y) el er ∙ sym (ap₂ ◌+◌ (degree-old hall new l left_in) (degree-old hall new r right_in));
     }
 
+-- new pairs come after all old members
 new-after : (hall : List Member) (top : ℕ) (m z : Member) → degree_of m ≤ top → IsNewPair hall (suc top) z → Comes m z
 new-after hall top m z le hz = subst (Comes m) (sym hz.1.is) (before-degree m (suc top) hz.1.left hz.1.right (omega arith))
 
@@ -320,5 +350,6 @@ grown-IsHall : (width n : ℕ) → IsHall (suc n) (grown width n)
 grown-IsHall width zero = letters-IsHall width
 grown-IsHall width (suc n) = grown-next (suc n) (grown width n) (grown-IsHall width n)
 
+-- each Hall list has these properties
 pub hall_list-IsHall : (width depth : ℕ) → 1 ≤ depth → IsHall depth (hall_list width depth)
 hall_list-IsHall width depth some = let e : suc (depth - 1) ≡ depth = omega arith in subst (λ (n : ℕ). IsHall n (hall_list width depth)) e (grown-IsHall width (depth - 1))

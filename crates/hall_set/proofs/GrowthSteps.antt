@@ -7,9 +7,9 @@ use Rattle.std.proofs.lemmas.List.{append-nil, get_or_default}
 use Rattle.std.proofs.lemmas.List.Elements.{filter-append}
 use Rattle.std.proofs.lemmas.List.Concat.{flat_map-append}
 use Rattle.definitions.specs.Words.{Extent, IsShape, up_to}
-use Rattle.hall_set.specs.Hall.{degree, degree_of, is_taken, pairs_with, pairs_of, grown}
-use Rattle.hall_set.specs.declared.member.Member.{Member}
-use Rattle.hall_set.specs.declared.member.Member.TheVariants.{Letter, Pair}
+use Rattle.definitions.specs.Hall.{degree, degree_of, is_taken, pairs_with, pairs_of, grown}
+use Rattle.definitions.specs.declared.member.Member.{Member}
+use Rattle.definitions.specs.declared.member.Member.TheVariants.{Letter, Pair}
 use Rattle.hall_set.proofs.Sizes.{hall_list-short}
 
 -- of the first k members those of degree e
@@ -62,6 +62,7 @@ grown-longer width k (suc n) le =
       | inr l ↦ omega (arith, grown-longer width k n (omega arith), length-append (grown width n) (pairs_of (grown width n) (suc (suc n))))
     ]
 
+-- no list has more than 1024 members while it is grown
 pub grown-short : (extent : Extent) (k : ℕ) → IsShape extent → k ≤ extent.depth - 1 → length (grown extent.width k) ≤ 1024
 grown-short extent k shape le = le_trans (grown-longer extent.width k (extent.depth - 1) le) (hall_list-short extent shape)
 

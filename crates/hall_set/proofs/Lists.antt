@@ -7,22 +7,27 @@ use Rattle.std.proofs.lemmas.List.Kept.{AllPairs-cons}
 use Rattle.definitions.specs.Words.{up_to}
 
 -- ---- each element
+-- what holds of all of two joined lists holds of the left one
 pub All-left : {X : Type 0} (P : X → Type 0) (xs ys : List X) → All P (xs ++ ys) → All P xs
 All-left P [] ys h = All-nil P
 All-left P (x ∷ xs) ys h = All-cons P x xs (All-head P x (xs ++ ys) h) (All-left P xs ys (All-tail P x (xs ++ ys) h))
 
+-- and of the right one
 pub All-right : {X : Type 0} (P : X → Type 0) (xs ys : List X) → All P (xs ++ ys) → All P ys
 All-right P [] ys h = h
 All-right P (x ∷ xs) ys h = All-right P xs ys (All-tail P x (xs ++ ys) h)
 
+-- a property of each list that is joined is one of the whole
 pub All-flat_map : {X Y : Type 0} (P : Y → Type 0) (f : X → List Y) (xs : List X) → All (λ x. All P (f x)) xs → All P (flat_map f xs)
 All-flat_map P f [] h = All-nil P
 All-flat_map P f (x ∷ xs) h = All-append P (f x) (flat_map f xs) (All-head (λ z. All P (f z)) x xs h) (All-flat_map P f xs (All-tail (λ z. All P (f z)) x xs h))
 
+-- and the other way round
 pub All-from_flat_map : {X Y : Type 0} (P : Y → Type 0) (f : X → List Y) (xs : List X) → All P (flat_map f xs) → All (λ x. All P (f x)) xs
 All-from_flat_map P f [] h = All-nil (λ z. All P (f z))
 All-from_flat_map P f (x ∷ xs) h = All-cons (λ z. All P (f z)) x xs (All-left P (f x) (flat_map f xs) h) (All-from_flat_map P f xs (All-right P (f x) (flat_map f xs) h))
 
+-- a property of what was mapped, before it is mapped
 pub All-from_map : {X Y : Type 0} (P : Y → Type 0) (f : X → Y) (xs : List X) → All P (map f xs) → All (λ x. P (f x)) xs
 All-from_map P f [] h = All-nil (λ z. P (f z))
 All-from_map P f (x ∷ xs) h = All-cons (λ z. P (f z)) x xs (All-head P (f x) (map f xs) h) (All-from_map P f xs (All-tail P (f x) (map f xs) h))
@@ -50,11 +55,13 @@ All-from_kept P p (x ∷ xs) h =
           All-cons (λ z. p z ≡ true → P z) x xs (λ e. absurd (both_ways (p x) drop e)) (All-from_kept P p xs kept)
     ]
 
+-- a property of each number from 1 to n, as one of their list
 pub All-up_to : (P : ℕ → Type 0) (n : ℕ) → ((h : ℕ) → 1 ≤ h → h ≤ n → P h) → All P (up_to n)
 All-up_to P zero each = All-nil P
 All-up_to P (suc n) each =
     All-append P (up_to n) (suc n ∷ []) (All-up_to P n (λ h l m. each h l (omega arith))) (All-cons P (suc n) [] (each (suc n) (omega arith) (omega arith)) (All-nil P))
 
+-- and the other way round
 pub up_to-each : (P : ℕ → Type 0) (n : ℕ) → All P (up_to n) → (h : ℕ) → 1 ≤ h → h ≤ n → P h
 up_to-each P zero all h least most = absurd (omega arith)
 up_to-each P (suc n) all h least most =
@@ -64,21 +71,24 @@ up_to-each P (suc n) all h least most =
     ]
 
 -- ---- each element with each later one
+-- no two elements, no condition
 pub AllPairs-nil : {X : Type 0} (R : X → X → Type 0) → AllPairs R []
 AllPairs-nil R i j d lt len = absurd (omega arith)
 
-AllPairs-head : {X : Type 0} (R : X → X → Type 0) (x : X) (xs : List X) → AllPairs R (x ∷ xs) → All (R x) xs
+pub AllPairs-head : {X : Type 0} (R : X → X → Type 0) (x : X) (xs : List X) → AllPairs R (x ∷ xs) → All (R x) xs
 AllPairs-head R x xs h = λ k d lt. h 0 (suc k) d (omega arith) (omega arith)
 
-AllPairs-tail : {X : Type 0} (R : X → X → Type 0) (x : X) (xs : List X) → AllPairs R (x ∷ xs) → AllPairs R xs
+pub AllPairs-tail : {X : Type 0} (R : X → X → Type 0) (x : X) (xs : List X) → AllPairs R (x ∷ xs) → AllPairs R xs
 AllPairs-tail R x xs h = λ i j d lt len. h (suc i) (suc j) d (omega arith) (omega arith)
 
+-- a relation holds of each two of two joined lists where it holds in each list and from each of the left to each of the right
 pub AllPairs-append : {X : Type 0} (R : X → X → Type 0) (xs ys : List X) → AllPairs R xs → AllPairs R ys → All (λ x. All (R x) ys) xs → AllPairs R (xs ++ ys)
 AllPairs-append R [] ys hx hy between = hy
 AllPairs-append R (x ∷ xs) ys hx hy between =
     AllPairs-cons R x (xs ++ ys) (All-append (R x) xs ys (AllPairs-head R x xs hx) (All-head (λ z. All (R z) ys) x xs between))
     (AllPairs-append R xs ys (AllPairs-tail R x xs hx) hy (All-tail (λ z. All (R z) ys) x xs between))
 
+-- a relation between what was mapped
 pub AllPairs-map : {X Y : Type 0} (R : Y → Y → Type 0) (f : X → Y) (xs : List X) → AllPairs (λ x z. R (f x) (f z)) xs → AllPairs R (map f xs)
 AllPairs-map R f [] h = AllPairs-nil R
 AllPairs-map R f (x ∷ xs) h =
@@ -92,6 +102,7 @@ All-crossed P Q R xs ys hx hy r = All-weaker P (λ x. All (R x) ys) (λ x px. Al
 across : {X Y : Type 0} (R : Y → Y → Type 0) (f : X → List Y) (x : X) (xs : List X) → All (λ z. All (λ a. All (R a) (f z)) (f x)) xs → All (λ a. All (R a) (flat_map f xs)) (f x)
 across R f x xs h = λ k d lt. All-flat_map (R _) f xs (All-weaker (λ z. All (λ a. All (R a) (f z)) (f x)) (λ z. All (R _) (f z)) (λ z all. all k d lt) xs h)
 
+-- a relation holds of each two of many joined lists where it holds in each, and between the lists of each two
 pub AllPairs-flat_map : {X Y : Type 0} (Q : X → X → Type 0) (R : Y → Y → Type 0) (f : X → List Y) (xs : List X) → All (λ x. AllPairs R (f x)) xs
     → ((x z : X) → Q x z → All (λ a. All (R a) (f z)) (f x)) → AllPairs Q xs → AllPairs R (flat_map f xs)
 AllPairs-flat_map Q R f [] each apart h = AllPairs-nil R
@@ -99,6 +110,7 @@ AllPairs-flat_map Q R f (x ∷ xs) each apart h =
     AllPairs-append R (f x) (flat_map f xs) (All-head (λ z. AllPairs R (f z)) x xs each) (AllPairs-flat_map Q R f xs (All-tail (λ z. AllPairs R (f z)) x xs each) apart (AllPairs-tail Q x xs h))
     (across R f x xs (All-weaker (Q x) (λ z. All (λ a. All (R a) (f z)) (f x)) (λ z q. apart x z q) xs (AllPairs-head Q x xs h)))
 
+-- the numbers from 1 rise
 pub up_to-rises : (n : ℕ) → AllPairs (λ a b. a < b) (up_to n)
 up_to-rises zero = AllPairs-nil (λ a b. a < b)
 up_to-rises (suc n) =

@@ -5,9 +5,9 @@ use Rattle.std.specs.List.{position_or_len}
 use Rattle.std.proofs.lemmas.Bool.{eqb-true, ltb-false, le-ltb, cases_Bool, and_parts}
 use Rattle.std.proofs.lemmas.List.Elements.{All-nil, All-cons, All-head, All-tail}
 use Rattle.std.proofs.lemmas.List.Quantifiers.{position-Some}
-use Rattle.hall_set.specs.Hall.{InHall, member, is_pair, number_at, number_of}
-use Rattle.hall_set.specs.declared.member.Member.{Member}
-use Rattle.hall_set.specs.declared.member.Member.TheVariants.{Letter, Pair}
+use Rattle.definitions.specs.Hall.{InHall, member, is_pair, number_at, number_of}
+use Rattle.definitions.specs.declared.member.Member.{Member}
+use Rattle.definitions.specs.declared.member.Member.TheVariants.{Letter, Pair}
 
 -- ---- a test that nothing passes
 none-passes : {X : Type 0} (p : X → Bool) (xs : List X) → length xs ≤ position_or_len p xs → All (λ x. p x ≡ false) xs
@@ -19,6 +19,7 @@ none-passes p (x ∷ xs) h =
           All-cons (λ z. p z ≡ false) x xs other (none-passes p xs (omega (arith, h, ap (λ (b : Bool). cond (not b) (1 + position_or_len p xs) 0) other)))
     ]
 
+-- where no element passes, the search ends at the length
 past-all : {X : Type 0} (p : X → Bool) (xs : List X) → All (λ x. p x ≡ false) xs → position_or_len p xs ≡ length xs
 past-all p [] h = refl
 past-all p (x ∷ xs) h =
@@ -41,6 +42,7 @@ no-number : (o : Option ℕ) → number_at o ≡ 0 → o ≡ None
 no-number None e = refl
 no-number (Some k) e = absurd (omega arith)
 
+-- a number from 1 is that of the place before it
 some-number : (o : Option ℕ) (n : ℕ) → number_at o ≡ suc n → o ≡ Some n
 some-number None n e = absurd (omega arith)
 some-number (Some k) n e = ap Some (omega arith)
@@ -49,10 +51,12 @@ some-number (Some k) n e = ap Some (omega arith)
 abbrev pub IsMissing : List Member → ℕ → ℕ → Type 0
 IsMissing hall i j = All (λ m. is_pair i j m ≡ false) hall
 
+-- number 0 says that no member is the pair
 pub number_of-missing : (hall : List Member) (i j : ℕ) → number_of hall i j ≡ 0 → IsMissing hall i j
 unfolding number_of
 number_of-missing hall i j e = position-none (is_pair i j) hall (no-number (position (is_pair i j) hall) e)
 
+-- a pair that no member is has the number 0
 pub missing-number_of : (hall : List Member) (i j : ℕ) → IsMissing hall i j → number_of hall i j ≡ 0
 unfolding number_of
 missing-number_of hall i j h = ap number_at (none-position (is_pair i j) hall h)
@@ -65,10 +69,14 @@ is_pair-true i j (Pair n l r) h =
 
 -- the pair stands at the number h
 pub record IsFound (hall : List Member) (i j h : ℕ) : Type 0 where
+  -- h is the number of a member
   pub inside : InHall hall h
+  -- the degree that the pair tells
   pub of_degree : ℕ
+  -- and the member is the pair (i, j)
   pub is : member hall h ≡ Pair of_degree i j
 
+-- another number than 0 is that of the pair
 pub number_of-found : (hall : List Member) (i j n : ℕ) → number_of hall i j ≡ suc n → IsFound hall i j (suc n)
 unfolding number_of
 number_of-found hall i j n e =

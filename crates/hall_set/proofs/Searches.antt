@@ -5,21 +5,24 @@ use Rattle.std.specs.List.Sorted.{IsPartitionedBy}
 use Rattle.std.proofs.lemmas.Bool.{eqb-true, eq-eqb, ltb-true, lt-ltb, le-ltb, and_parts, and_from, or_cases, or_left, or_right, or_from, and_right, both_ways, cases_order, cases_eq}
 use Rattle.std.proofs.lemmas.List.{get_or_default}
 use Rattle.definitions.specs.Words.{Extent, IsShape}
-use Rattle.hall_set.specs.Hall.{InHall, IsHallList, degree, degree_of, hall_list, is_pair, number_of}
-use Rattle.hall_set.specs.Order.{precedes, IsPlace}
-use Rattle.hall_set.specs.declared.member.Member.{Member}
-use Rattle.hall_set.specs.declared.member.Member.TheVariants.{Letter, Pair}
+use Rattle.definitions.specs.Hall.{InHall, IsHallList, degree, degree_of, hall_list, is_pair, number_of}
+use Rattle.definitions.specs.Order.{precedes, IsPlace}
+use Rattle.definitions.specs.declared.member.Member.{Member}
+use Rattle.definitions.specs.declared.member.Member.TheVariants.{Letter, Pair}
 use Rattle.hall_set.proofs.Numbers.{number_of-missing, IsFound, number_of-found}
 use Rattle.hall_set.proofs.GrownLists.{Comes, IsPairOf, IsHall, hall_list-IsHall, member-read}
 use Rattle.hall_set.proofs.Sizes.{hall_list-short}
 
 -- ---- the Hall list of a shape
+-- a Hall list has the properties of one, to the depth of its shape
 pub list-IsHall : (hall : List Member) (list : IsHallList hall) → IsHall (list.0.depth) hall
 list-IsHall hall list = subst (IsHall (list.0.depth)) (sym list.2) (hall_list-IsHall list.0.width list.0.depth list.1.some_depth)
 
+-- no Hall list has more than 1024 members
 pub list-short : (hall : List Member) → IsHallList hall → length hall ≤ 1024
 list-short hall list = subst (λ (ms : List Member). length ms ≤ 1024) (sym list.2) (hall_list-short list.0 list.1)
 
+-- no member has a degree above 8
 pub list-degree : (hall : List Member) → IsHallList hall → (h : ℕ) → InHall hall h → degree hall h ≤ 8
 list-degree hall list h inside = omega (arith, (list-IsHall hall list).topped h inside, list.1.within_depth)
 
@@ -27,6 +30,7 @@ list-degree hall list h inside = omega (arith, (list-IsHall hall list).topped h 
 abbrev IsBefore : (n i j m l r : ℕ) → Type 0
 IsBefore n i j m l r = (m < n) ⊎ ((m ≡ n) × ((l < i) ⊎ ((l ≡ i) × (r < j))))
 
+-- what the test of the order says, as a case
 precedes-true : (n i j m l r : ℕ) → precedes n i j (Pair m l r) ≡ true → IsBefore n i j m l r
 precedes-true n i j m l r h =
     elim (or_cases (ltb m n) (eqb m n && (ltb l i || eqb l i && ltb r j)) h) [
@@ -42,6 +46,7 @@ precedes-true n i j m l r h =
           ))
     ]
 
+-- and back
 before-precedes : (n i j m l r : ℕ) → IsBefore n i j m l r → precedes n i j (Pair m l r) ≡ true
 before-precedes n i j m l r (inl lt) = or_left (ltb m n) (eqb m n && (ltb l i || eqb l i && ltb r j)) (lt-ltb m n lt)
 before-precedes n i j m l r (inr (e, inl lt)) =
@@ -50,6 +55,7 @@ before-precedes n i j m l r (inr (e, inr (f, lt))) =
     or_right (ltb m n) (eqb m n && (ltb l i || eqb l i && ltb r j))
     (and_from (eqb m n) (ltb l i || eqb l i && ltb r j) (eq-eqb m n e) (or_right (ltb l i) (eqb l i && ltb r j) (and_from (eqb l i) (ltb r j) (eq-eqb l i f) (lt-ltb r j lt))))
 
+-- the order is transitive
 before-before : (n i j m l r k a b : ℕ) → IsBefore m l r k a b → IsBefore n i j m l r → IsBefore n i j k a b
 before-before n i j m l r k a b (inl p) (inl q) = inl (omega arith)
 before-before n i j m l r k a b (inl p) (inr (e, q)) = inl (omega arith)
@@ -72,6 +78,7 @@ precedes-itself n i j =
     (and_right (eqb n n) (ltb i i || eqb i i && ltb j j)
     (or_from (ltb i i) (eqb i i && ltb j j) (le-ltb i i (omega arith)) (and_right (eqb i i) (ltb j j) (le-ltb j j (omega arith)))))
 
+-- the members that precede a pair are the first ones of the list
 pub precedes-partitions : (depth : ℕ) (hall : List Member) → IsHall depth hall → (n i j : ℕ) → IsPartitionedBy (precedes n i j) hall
 precedes-partitions depth hall ok n i j = λ a b d le len h.
     elim (cases_eq a b) [
@@ -80,6 +87,7 @@ precedes-partitions depth hall ok n i j = λ a b d le len h.
     ]
 
 -- ---- where the pair stands
+-- a pair that is in the list stands at its place in the order
 pub found-place : (depth : ℕ) (hall : List Member) → IsHall depth hall → (n i j at x : ℕ) → n ≡ degree hall i + degree hall j → IsPlace n i j hall at → number_of hall i j ≡ suc x → x ≡ at
 found-place depth hall ok n i j at x sum place e =
     let f : IsFound hall i j (suc x) = number_of-found hall i j x e in
@@ -99,6 +107,7 @@ found-place depth hall ok n i j at x sum place e =
       ]
     ]
 
+-- a number is 0, or one from 1
 number-cases : (n : ℕ) → (n ≡ 0) ⊎ ((x : ℕ) × (n ≡ suc x))
 number-cases zero = inl refl
 number-cases (suc x) = inr ((x, refl))
@@ -117,6 +126,7 @@ number-at_place depth hall ok n i j at m sum place within read h = (
   ],
 )
 
+-- a pair isn't in the list where another member stands at its place
 pub no-number-at_place : (depth : ℕ) (hall : List Member) → IsHall depth hall → (n i j at : ℕ) (m : Member) → n ≡ degree hall i + degree hall j → IsPlace n i j hall at → m ≡ get_or hall at m → is_pair i j m ≡ false → number_of hall i j ≡ 0
 no-number-at_place depth hall ok n i j at m sum place read h =
     elim (number-cases (number_of hall i j)) [
@@ -129,6 +139,7 @@ no-number-at_place depth hall ok n i j at m sum place read h =
           absurd (both_ways (is_pair i j m) h (ap (is_pair i j) here ∙ is_pair-itself f.of_degree i j))
     ]
 
+-- nor where its place is the end of the list
 pub no-number-past : (depth : ℕ) (hall : List Member) → IsHall depth hall → (n i j at : ℕ) → n ≡ degree hall i + degree hall j → IsPlace n i j hall at → length hall ≤ at → number_of hall i j ≡ 0
 no-number-past depth hall ok n i j at sum place past =
     elim (number-cases (number_of hall i j)) [
@@ -146,6 +157,7 @@ no-number-left depth hall ok i j outside =
           absurd (outside (ok.pairs (suc some.0) f.of_degree i j f.inside f.is).left_in)
     ]
 
+-- nor where its right parent is no member
 pub no-number-right : (depth : ℕ) (hall : List Member) → IsHall depth hall → (i j : ℕ) → (InHall hall j → ⊥) → number_of hall i j ≡ 0
 no-number-right depth hall ok i j outside =
     elim (number-cases (number_of hall i j)) [

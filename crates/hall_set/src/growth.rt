@@ -1,8 +1,8 @@
 ghost use Rattle.std.specs.Prelude.{◌≡◌, ◌≤◌, ◌+◌, ◌-◌, ◌++◌, ◌&&◌, length, eqb, ltb, IfOk, OnOk};
 ghost use Rattle.definitions.specs.Words.{IsShape};
-ghost use Rattle.hall_set.specs.Hall.{degree_of, follows, pairs_with, pairs_from, pairs_of, hall_list};
+ghost use Rattle.definitions.specs.Hall.{degree_of, follows, pairs_with, pairs_from, pairs_of, hall_list};
 
-use crate::member::Member;
+use definitions::Member;
 use std::alloc::{AllocError, Global};
 use words::Shape;
 

@@ -6,12 +6,11 @@
 #![tactic(auto)]
 
 mod growth;
-pub mod member;
 mod search;
 pub mod set;
 #[cfg(test)]
 mod tests;
 mod text;
 
-pub use member::Member;
+pub use definitions::Member;
 pub use set::HallSet;

@@ -1,8 +1,8 @@
 ghost use Rattle.std.specs.Prelude.{◌≡◌, MatchOption};
-ghost use Rattle.hall_set.specs.Hall.{InHall, IsHallList, member, number_of};
-ghost use Rattle.hall_set.specs.Order.{IsPlace};
+ghost use Rattle.definitions.specs.Hall.{InHall, IsHallList, member, number_of};
+ghost use Rattle.definitions.specs.Order.{IsPlace};
 
-use crate::member::Member;
+use definitions::Member;
 
 /// The member of a number, `None` where there is none.
 fn member_at(members: &[Member], h: u32) -> Option<Member>

@@ -1,12 +1,12 @@
 ghost use Rattle.std.specs.Prelude.{◌≡◌, ◌++◌, ◌≤◌, IfOk, OnOk, MatchOption, length, string_bytes};
 ghost use Rattle.definitions.specs.Words.{IsShape};
-ghost use Rattle.hall_set.specs.Hall.{InHall, hall_list, member, degree, number_of, text_of};
-ghost use Rattle.hall_set.specs.declared.member.Member.TheVariants.{Letter, Pair};
+ghost use Rattle.definitions.specs.Hall.{InHall, hall_list, member, degree, number_of, text_of};
+ghost use Rattle.definitions.specs.declared.member.Member.TheVariants.{Letter, Pair};
 
 use crate::growth::grow;
-use crate::member::Member;
 use crate::search::find_pair;
 use crate::text::push_text;
+use definitions::Member;
 use std::alloc::Global;
 use std::marker::Model;
 use words::{Memory, Shape};
@@ -21,7 +21,7 @@ pub struct HallSet {
 impl Model for HallSet {
     ghost use Rattle.std.specs.Prelude.{◌≡◌};
     ghost use Rattle.definitions.specs.Words.{Extent, IsShape};
-    ghost use Rattle.hall_set.specs.Hall.{hall_list};
+    ghost use Rattle.definitions.specs.Hall.{hall_list};
 
     ghost Value = { Extent };
 

@@ -1,7 +1,7 @@
 ghost use Rattle.std.specs.Prelude.{◌≡◌, ◌++◌, OnOk, string_bytes};
-ghost use Rattle.hall_set.specs.Hall.{InHall, IsHallList, text_of};
+ghost use Rattle.definitions.specs.Hall.{InHall, IsHallList, text_of};
 
-use crate::member::Member;
+use definitions::Member;
 use std::alloc::AllocError;
 
 /// Appends the text of a member.

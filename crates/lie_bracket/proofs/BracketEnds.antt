@@ -4,9 +4,9 @@ use Rattle.std.specs.Prelude.{All, Bool, true, false, ◌||◌}
 use Rattle.std.proofs.Math.Nat.{mul-le-mul_right}
 use Rattle.std.proofs.lemmas.Bool.{eqb-false, eq-eqb, ne_eqb, ltb-true, ltb-false, lt-ltb, le-ltb, or_parts, or_left, or_right, cases_lt}
 use Rattle.std.proofs.lemmas.List.Elements.{All-head, All-tail, All-weaker}
-use Rattle.hall_set.specs.Hall.{InHall, member, degree, degree_of, number_of}
-use Rattle.hall_set.specs.declared.member.Member.{Member}
-use Rattle.hall_set.specs.declared.member.Member.TheVariants.{Letter, Pair}
+use Rattle.definitions.specs.Hall.{InHall, member, degree, degree_of, number_of}
+use Rattle.definitions.specs.declared.member.Member.{Member}
+use Rattle.definitions.specs.declared.member.Member.TheVariants.{Letter, Pair}
 use Rattle.hall_set.proofs.GrownLists.{IsPairOf, IsLate, IsHall}
 use Rattle.lie_bracket.specs.declared.term.Term.{Term}
 use Rattle.lie_bracket.specs.Brackets.{term, scaled, over_terms, by_parents, by_number, by_degree, bracket_within, enough, bracket, majorant}
@@ -15,7 +15,9 @@ use Rattle.lie_bracket.proofs.BracketTerms.{IsTermOf, Homogeneous, bracket_withi
 -- ---- the bracket ends: what is left of the fuel
 -- enough for the bracket of a and b: first by the degrees, then by the smaller number, then by the order
 pub record HasFuel (hall : List Member) (fuel a b : ℕ) : Type 0 where
+  -- where a is first
   pub upward : a ≤ b → 2 * ((degree hall a + degree hall b) * suc (length hall) + (length hall - a)) + 1 ≤ fuel
+  -- the other order takes one bracket more
   pub downward : b < a → 2 * ((degree hall a + degree hall b) * suc (length hall) + (length hall - b)) + 2 ≤ fuel
 
 -- a bracket of lower degree has fuel left
@@ -34,6 +36,7 @@ fuel-later hall fuel a b c d lt same lc ld hc hd h =
     let had : 2 * ((degree hall a + degree hall b) * suc n + (n - a)) + 1 ≤ suc fuel = h.upward (omega arith) in
     record { upward = λ l. omega (arith, room, had, hc.most, hd.most); downward = λ l. omega (arith, room, had, hc.most, hd.most) }
 
+-- sums over the same terms agree where what is summed does at each number
 pub over_terms-same : (ts : List Term) (f g : ℕ → List Term) → All (λ t. f t.number ≡ g t.number) ts → over_terms ts f ≡ over_terms ts g
 over_terms-same [] f g same = refl
 over_terms-same (t ∷ ts) f g same =
@@ -110,10 +113,15 @@ bracket_within-agree depth hall minus ok (suc fuel) (suc fuel') a b ha hb has ha
 
 -- the equations of the bracket, with this sign for what is subtracted
 pub record IsBracket (minus : ℤ → ℤ) (depth : ℕ) (hall : List Member) (br : ℕ → ℕ → List Term) : Type 0 where
+  -- the bracket of a member with itself is nothing
   pub same : (a : ℕ) → br a a ≡ []
+  -- so is one whose degrees add up to more than the depth
   pub deep : (a b : ℕ) → depth < degree hall a + degree hall b → br a b ≡ []
+  -- in the other order it has the other sign
   pub swapped : (a b : ℕ) → InHall hall a → InHall hall b → b < a → degree hall a + degree hall b ≤ depth → br a b ≡ scaled minus (br b a)
+  -- a pair of the list is its own bracket
   pub found : (a b n : ℕ) → InHall hall a → InHall hall b → a < b → degree hall a + degree hall b ≤ depth → number_of hall a b ≡ suc n → br a b ≡ term (pos 1) (suc n) ∷ []
+  -- otherwise it is that of the parents: for b = [l, r] the bracket with r of [a, l], minus that with l of [a, r]
   pub split : (a b n l r : ℕ) → InHall hall a → InHall hall b → a < b → degree hall a + degree hall b ≤ depth → number_of hall a b ≡ 0 → member hall b ≡ Pair n l r
       → br a b ≡ over_terms (br a l) (λ c. br c r) ++ scaled minus (over_terms (br a r) (λ c. br c l))
 
@@ -123,6 +131,7 @@ at-step : (minus : ℤ → ℤ) (depth : ℕ) (hall : List Member) (fuel a b : �
 at-step minus depth hall fuel a b above none ea en =
     ap₂ (λ (x y : Bool). by_degree minus (bracket_within minus depth hall fuel) a b (member hall b) (number_of hall a b) x y) ea en
 
+-- the two reasons for an empty bracket fail together
 none-false : (depth : ℕ) (hall : List Member) (a b : ℕ) → (a ≡ b → ⊥) → degree hall a + degree hall b ≤ depth → (eqb a b || ltb depth (degree hall a + degree hall b)) ≡ false
 none-false depth hall a b ne deep = ap₂ ◌||◌ (ne_eqb a b ne) (le-ltb depth (degree hall a + degree hall b) deep)
 
@@ -138,6 +147,7 @@ enough-for-all depth hall fuel ef a b ha hb deep =
 more-fuel : (hall : List Member) (fuel a b : ℕ) → HasFuel hall fuel a b → HasFuel hall (suc fuel) a b
 more-fuel hall fuel a b has = record { upward = λ l. omega (arith, has.upward l); downward = λ l. omega (arith, has.downward l) }
 
+-- brackets with enough fuel for all pairs meet the equations
 pub bracket_within-IsBracket : (minus : ℤ → ℤ) (depth : ℕ) (hall : List Member) → IsHall depth hall → (fuel : ℕ) → AllFuel depth hall (suc fuel) → IsBracket minus depth hall (bracket_within minus depth hall (suc fuel))
 bracket_within-IsBracket minus depth hall ok fuel all =
     let rest : ℕ → ℕ → List Term = bracket_within minus depth hall fuel in
@@ -163,6 +173,7 @@ bracket_within-IsBracket minus depth hall ok fuel all =
 some-fuel : (depth : ℕ) (hall : List Member) → suc (enough depth hall - 1) ≡ enough depth hall
 some-fuel depth hall = omega arith
 
+-- the bracket meets the equations
 pub bracket-IsBracket : (depth : ℕ) (hall : List Member) → IsHall depth hall → IsBracket neg_ℤ depth hall (bracket depth hall)
 unfolding bracket
 bracket-IsBracket depth hall ok =
@@ -170,6 +181,7 @@ bracket-IsBracket depth hall ok =
     (bracket_within-IsBracket neg_ℤ depth hall ok (enough depth hall - 1)
     (enough-for-all depth hall (enough depth hall - 1) (some-fuel depth hall)))
 
+-- the majorant meets them with every sign plus
 pub majorant-IsBracket : (depth : ℕ) (hall : List Member) → IsHall depth hall → IsBracket (λ k. k) depth hall (majorant depth hall)
 unfolding majorant
 majorant-IsBracket depth hall ok =

@@ -7,9 +7,9 @@ use Rattle.std.proofs.lemmas.Bool.{eqb-true, eqb-false, ltb-true, ltb-false, or_
 use Rattle.std.proofs.lemmas.List.Elements.{All-weaker}
 use Rattle.definitions.proofs.Integers.{one-mul_ℤ}
 use Rattle.definitions.specs.Commutators.{commutator}
-use Rattle.hall_set.specs.Hall.{InHall, member, degree, degree_of, number_of}
-use Rattle.hall_set.specs.declared.member.Member.{Member}
-use Rattle.hall_set.specs.declared.member.Member.TheVariants.{Letter, Pair}
+use Rattle.definitions.specs.Hall.{InHall, member, degree, degree_of, number_of}
+use Rattle.definitions.specs.declared.member.Member.{Member}
+use Rattle.definitions.specs.declared.member.Member.TheVariants.{Letter, Pair}
 use Rattle.hall_set.proofs.GrownLists.{IsPairOf, IsLate, IsHall}
 use Rattle.hall_set.proofs.Numbers.{IsFound, number_of-found}
 use Rattle.lie_bracket.specs.declared.term.Term.{Term}
@@ -19,6 +19,7 @@ use Rattle.lie_bracket.proofs.TermSums.{expanded-append, expanded-neg, expanded-
 use Rattle.lie_bracket.proofs.BracketTerms.{IsTermOf, Homogeneous, bracket_within-terms}
 use Rattle.lie_bracket.proofs.BracketEnds.{HasFuel, fuel-lower, fuel-later}
 
+-- the bracket of a and b expands to the commutator of what a and b expand to
 abbrev pub Expands : List Member → (ℕ → List ℕ → ℤ) → (ℕ → ℕ → List Term) → ℕ → ℕ → Type 0
 Expands hall e rest a b = (w : List ℕ) → expanded e (rest a b) w ≡ commutator (e a) (e b) w
 
@@ -90,6 +91,7 @@ by_degree-expands depth hall e fuel rest ok ex terms before a b false false ha h
     let ne : a ≡ b → ⊥ = eqb-false a b parts in
     by_number-expands depth hall e fuel rest ok ex terms before a b (number_of hall a b) ha hb (omega arith) deep has refl w
 
+-- so does each bracket that had enough fuel
 pub bracket_within-expands : (depth : ℕ) (hall : List Member) (e : ℕ → List ℕ → ℤ) → IsHall depth hall → Expansions hall e → (fuel : ℕ) → Before depth hall e fuel (bracket_within neg_ℤ depth hall fuel)
 bracket_within-expands depth hall e ok ex zero a b ha hb deep has w =
     elim (cases_lt b a) [ inl lt ↦ absurd (omega (arith, has.downward lt)) | inr le ↦ absurd (omega (arith, has.upward le)) ]

@@ -2,18 +2,22 @@
 use Rattle.std.proofs.Common.{◌≡◌, ℕ, zero, suc, ◌+◌, refl, ap, ◌∙◌, subst, arith, ℤ, pos, neg_ℤ, ◌*ℤ◌, List, [], ◌∷◌, eqb, ltb}
 use Rattle.std.specs.Prelude.{All, Bool, true, false, ◌||◌}
 use Rattle.std.proofs.lemmas.List.Elements.{All-nil, All-cons, All-head, All-tail, All-append}
-use Rattle.hall_set.specs.Hall.{InHall, member, degree, degree_of, number_of}
-use Rattle.hall_set.specs.declared.member.Member.{Member}
-use Rattle.hall_set.specs.declared.member.Member.TheVariants.{Letter, Pair}
+use Rattle.definitions.specs.Hall.{InHall, member, degree, degree_of, number_of}
+use Rattle.definitions.specs.declared.member.Member.{Member}
+use Rattle.definitions.specs.declared.member.Member.TheVariants.{Letter, Pair}
 use Rattle.hall_set.proofs.GrownLists.{IsPairOf, IsHall}
 use Rattle.hall_set.proofs.Numbers.{IsFound, number_of-found}
 use Rattle.lie_bracket.specs.declared.term.Term.{Term}
 use Rattle.lie_bracket.specs.Brackets.{term, scaled, over_terms, by_parents, by_number, by_degree, bracket_within, enough, bracket}
 
+-- a term of a member of degree n
 pub record IsTermOf (hall : List Member) (n : ℕ) (t : Term) : Type 0 where
+  -- its number is that of a member
   pub inside : InHall hall t.number
+  -- which has this degree
   pub degree_is : degree hall t.number ≡ n
 
+-- other factors change no degree
 pub terms-scaled : (hall : List Member) (n : ℕ) (f : ℤ → ℤ) (xs : List Term) → All (IsTermOf hall n) xs → All (IsTermOf hall n) (scaled f xs)
 terms-scaled hall n f [] h = All-nil (IsTermOf hall n)
 terms-scaled hall n f (t ∷ xs) h =
@@ -21,6 +25,7 @@ terms-scaled hall n f (t ∷ xs) h =
     All-cons (IsTermOf hall n) (term (f t.factor) t.number) (scaled f xs) (record { inside = first.inside; degree_is = first.degree_is })
     (terms-scaled hall n f xs (All-tail (IsTermOf hall n) t xs h))
 
+-- the terms of a sum over members of degree m have degree n where each summand's have
 pub terms-over : (hall : List Member) (m n : ℕ) (f : ℕ → List Term) (xs : List Term) → All (IsTermOf hall m) xs
     → ((c : ℕ) → InHall hall c → degree hall c ≡ m → All (IsTermOf hall n) (f c)) → All (IsTermOf hall n) (over_terms xs f)
 terms-over hall m n f [] h ok = All-nil (IsTermOf hall n)
@@ -65,11 +70,13 @@ by_degree-terms depth hall minus rest ok before a b true false ha hb =
     (subst (λ (k : ℕ). All (IsTermOf hall k) (rest b a)) (let s : degree hall b + degree hall a ≡ degree hall a + degree hall b = omega arith in s) (before b a hb ha))
 by_degree-terms depth hall minus rest ok before a b false false ha hb = by_number-terms depth hall minus rest ok before a b (number_of hall a b) ha hb refl
 
+-- the terms of a bracket have the degree of both members together, with whatever fuel
 pub bracket_within-terms : (depth : ℕ) (hall : List Member) (minus : ℤ → ℤ) → IsHall depth hall → (fuel : ℕ) → Homogeneous hall (bracket_within minus depth hall fuel)
 bracket_within-terms depth hall minus ok zero a b ha hb = All-nil (IsTermOf hall (degree hall a + degree hall b))
 bracket_within-terms depth hall minus ok (suc fuel) a b ha hb =
     by_degree-terms depth hall minus (bracket_within minus depth hall fuel) ok (bracket_within-terms depth hall minus ok fuel) a b (ltb b a) (eqb a b || ltb depth (degree hall a + degree hall b)) ha hb
 
+-- the terms of the bracket of a and b are members of the degree of a and b together
 pub bracket-terms : (depth : ℕ) (hall : List Member) → IsHall depth hall → (a b : ℕ) → InHall hall a → InHall hall b → All (IsTermOf hall (degree hall a + degree hall b)) (bracket depth hall a b)
 unfolding bracket
 bracket-terms depth hall ok a b ha hb = bracket_within-terms depth hall neg_ℤ ok (enough depth hall) a b ha hb

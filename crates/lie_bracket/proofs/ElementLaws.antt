@@ -6,8 +6,8 @@ use Rattle.std.proofs.lemmas.Bool.{cases_eq}
 use Rattle.std.proofs.lemmas.List.Elements.{All-from_get_or}
 use Rattle.std.proofs.lemmas.List.{get_or_default}
 use Rattle.definitions.specs.Signature.{limit}
-use Rattle.hall_set.specs.Hall.{InHall}
-use Rattle.hall_set.specs.declared.member.Member.{Member}
+use Rattle.definitions.specs.Hall.{InHall}
+use Rattle.definitions.specs.declared.member.Member.{Member}
 use Rattle.lie_bracket.specs.declared.term.Term.{Term}
 use Rattle.lie_bracket.specs.Brackets.{term}
 use Rattle.lie_bracket.specs.Entries.{sizes, Numbers}
@@ -31,6 +31,7 @@ rises n terms good i (suc j) lt len =
       | inr apart ↦ omega (arith, next, rises n terms good i j (omega arith) (omega arith))
     ]
 
+-- a list of terms that are good at their places is a Lie element
 pub good-IsElement : (n : ℕ) (terms : List Term) → EachIndex terms (IsGoodAt n terms) → IsElement terms
 good-IsElement n terms good =
     let d : Term = term (pos 0) 0 in
@@ -43,6 +44,7 @@ good-IsElement n terms good =
       in_range = All-from_get_or (λ t. unsigned_abs t.factor ≤ limit) terms d (λ i lt. (good i lt).in_range);
     }
 
+-- and all its numbers are those of members
 pub good-members : (hall : List Member) (terms : List Term) → EachIndex terms (IsGoodAt (length hall) terms) → All (λ t. InHall hall t.number) terms
 good-members hall terms good =
     All-from_get_or (λ t. InHall hall t.number) terms (term (pos 0) 0) (λ i lt. record { least = omega (arith, (good i lt).above); most = (good i lt).within })
@@ -64,6 +66,7 @@ length-within n terms rising all =
       | inr some ↦ omega (arith, rises-past n terms rising all (length terms - 1) (omega arith), (all (length terms - 1) (term (pos 0) 0) (omega arith)).1)
     ]
 
+-- an element over at most 1024 members has at most 2 ^ 10 times its greatest factor in all
 pub sizes-within : (n : ℕ) (terms : List Term) → n ≤ 1024 → IsElement terms → Numbers n terms → sizes terms ≤ 2 ^ 10 * top terms
 sizes-within n terms few element all =
     le_trans (sizes-top (top terms) terms (omega arith)) (mul-le-mul_right (top terms) (le_trans (length-within n terms element.rising all) few))

@@ -27,6 +27,7 @@ apart-cmp a c apart =
       | inr other ↦ elim other [ inl below ↦ ap is_eq (cmp-less a c below) | inr above ↦ ap is_eq (cmp-greater a c above) ]
     ]
 
+-- other pairs are told apart
 pub pairs-apart : (a b c d : ℕ) → (a ≡ c → b ≡ d → ⊥) → is_eq (pair_cmp (a, b) (c, d)) ≡ false
 pairs-apart a b c d apart =
     elim (cases_order a c) [
@@ -37,6 +38,7 @@ pairs-apart a b c d apart =
       ]
     ]
 
+-- what compares greater is greater
 pub greater-above : (a b : ℕ) → Greater ≡ nat_cmp a b → b < a
 greater-above a b e =
     elim (cases_order a b) [
@@ -45,12 +47,15 @@ greater-above a b e =
     ]
 
 -- ---- brackets that are looked up
+-- in the order of the numbers the entry is read as it stands
 pub looked_up-below : (sign : Sign) (m : BTreeMap (ℕ × ℕ) (List Term)) (a b : ℕ) → a < b → looked_up sign m a b ≡ stored m a b
 looked_up-below sign m a b lt = ap (λ (t : Bool). cond t (stored m a b) (cond (ltb b a) (scaled (signed sign) (stored m b a)) [])) (lt-ltb a b lt)
 
+-- in the other order with the sign
 pub looked_up-above : (sign : Sign) (m : BTreeMap (ℕ × ℕ) (List Term)) (a b : ℕ) → b < a → looked_up sign m a b ≡ scaled (signed sign) (stored m b a)
 looked_up-above sign m a b lt =
     ap₂ (λ (t u : Bool). cond t (stored m a b) (cond u (scaled (signed sign) (stored m b a)) [])) (le-ltb a b (omega arith)) (lt-ltb b a lt)
 
+-- a member with itself has nothing
 pub looked_up-same : (sign : Sign) (m : BTreeMap (ℕ × ℕ) (List Term)) (a : ℕ) → looked_up sign m a a ≡ []
 looked_up-same sign m a = ap (λ (t : Bool). cond t (stored m a a) (cond t (scaled (signed sign) (stored m a a)) [])) (le-ltb a a (omega arith))

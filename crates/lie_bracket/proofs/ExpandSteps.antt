@@ -11,9 +11,9 @@ use Rattle.std.proofs.lemmas.List.Elements.{All-head, All-tail, All-get_or, All-
 use Rattle.definitions.proofs.Integers.{abs-add}
 use Rattle.definitions.specs.Signature.{limit}
 use Rattle.definitions.specs.Commutators.{letter}
-use Rattle.hall_set.specs.Hall.{InHall, IsHallList, member, degree, degree_of, expansion}
-use Rattle.hall_set.specs.declared.member.Member.{Member}
-use Rattle.hall_set.specs.declared.member.Member.TheVariants.{Letter, Pair}
+use Rattle.definitions.specs.Hall.{InHall, IsHallList, member, degree, degree_of, expansion}
+use Rattle.definitions.specs.declared.member.Member.{Member}
+use Rattle.definitions.specs.declared.member.Member.TheVariants.{Letter, Pair}
 use Rattle.hall_set.proofs.GrownLists.{IsHall, IsPairOf, member-read}
 use Rattle.hall_set.proofs.Searches.{list-IsHall, list-degree}
 use Rattle.hall_set.proofs.Folds.{expansion-letter}
@@ -21,7 +21,8 @@ use Rattle.lie_bracket.specs.declared.term.Term.{Term}
 use Rattle.lie_bracket.specs.Brackets.{expanded}
 use Rattle.lie_bracket.specs.Elements.{term_at}
 use Rattle.lie_bracket.specs.Expanding.{level_size, FitsLevel}
-use Rattle.lie_bracket.proofs.Expansions.{IsPart, commutator-at, expansion-Expansions, expansion-IsPart}
+use Rattle.lie_steps.proofs.Expansions.{IsPart, expansion-IsPart}
+use Rattle.lie_bracket.proofs.Expansions.{commutator-at, expansion-Expansions}
 
 -- the bound on an expanded sum
 pub abs-expanded : (depth : ℕ) (hall : List Member) → IsHall depth hall → (ts : List Term) → All (λ t. InHall hall t.number) ts → (w : List ℕ)
@@ -44,6 +45,7 @@ abs-expanded depth hall ok (t ∷ ts) all w =
     ]
 
 -- ---- one term more
+-- one term more adds its factor times the series of its number
 pub expanded-next : (e : ℕ → List ℕ → ℤ) (ts : List Term) (i : ℕ) (w : List ℕ) → i < length ts
     → expanded e (take (i + 1) ts) w ≡ expanded e (take i ts) w +ℤ ((term_at ts i).factor *ℤ e (term_at ts i).number w)
 expanded-next e [] i w lt = absurd (omega arith)
@@ -52,6 +54,7 @@ expanded-next e (t ∷ ts) (suc i) w lt =
     let one : suc i + 1 ≡ suc (i + 1) = omega arith in
     ap (λ (n : ℕ). expanded e (take n (t ∷ ts)) w) one ∙ omega (arith, ints, expanded-next e ts i w (omega arith))
 
+-- one term more adds its factor to the size of a level, where its degree is that of the level
 pub level_size-next : (hall : List Member) (k : ℕ) (ts : List Term) (i : ℕ) → i < length ts
     → level_size hall k (take (i + 1) ts) ≡ level_size hall k (take i ts) + cond (eqb (degree hall (term_at ts i).number) k) (unsigned_abs (term_at ts i).factor) 0
 level_size-next hall k [] i lt = absurd (omega arith)
@@ -60,6 +63,7 @@ level_size-next hall k (t ∷ ts) (suc i) lt =
     let one : suc i + 1 ≡ suc (i + 1) = omega arith in
     ap (λ (n : ℕ). level_size hall k (take n (t ∷ ts))) one ∙ omega (arith, level_size-next hall k ts i (omega arith))
 
+-- the first terms of a sum are no larger than all of them
 pub level_size-part : (hall : List Member) (k : ℕ) (ts : List Term) (i : ℕ) → level_size hall k (take i ts) ≤ level_size hall k ts
 level_size-part hall k [] zero = omega arith
 level_size-part hall k [] (suc i) = omega arith
@@ -67,6 +71,7 @@ level_size-part hall k (t ∷ ts) zero = omega arith
 level_size-part hall k (t ∷ ts) (suc i) = omega (arith, level_size-part hall k ts i)
 
 -- ---- the coefficient of a pair, from those of its parents
+-- the coefficient of a pair [l, r]: l at the front times r at the rest, minus r at the front times l at the rest, each cut where the front's degree ends
 pub pair-coefficient : (depth : ℕ) (hall : List Member) → IsHall depth hall → (h n l r : ℕ) → InHall hall h → member hall h ≡ Pair n l r → (w : List ℕ) → length w ≡ degree hall h
     → (expansion hall l (take (degree hall l) w) *ℤ expansion hall r (drop (degree hall l) w)) -ℤ (expansion hall r (take (degree hall r) w) *ℤ expansion hall l (drop (degree hall r) w)) ≡ expansion hall h w
 pair-coefficient depth hall ok h n l r inside e w len =
@@ -77,14 +82,17 @@ pair-coefficient depth hall ok h n l r inside e w len =
     (expansion-IsPart depth hall ok r p.right_in) w (len ∙ ap degree_of e ∙ p.sum))
 
 -- ---- powers of two
+-- powers of 2 up to the 16-th are within the range of a coefficient
 pub power-small : (n : ℕ) → n ≤ 16 → 2 ^ n ≤ limit
 power-small n small = le_trans (pow_mono small) (lit≤ tt)
 
+-- the product of coefficients of degrees i and j
 pub abs-product : (i j k : ℕ) (a b : ℤ) → 1 ≤ i → 1 ≤ j → k ≡ i + j → unsigned_abs a ≤ 2 ^ (i - 1) → unsigned_abs b ≤ 2 ^ (j - 1) → unsigned_abs (a *ℤ b) ≤ 2 ^ (k - 2)
 abs-product i j k a b si sj e ha hb =
     let sum : i - 1 + (j - 1) ≡ k - 2 = omega arith in
     omega (arith, unsigned_abs-mul a b, mul-le-mul ha hb, pow-add 2 (i - 1) (j - 1), ap (λ (n : ℕ). 2 ^ n) sum)
 
+-- the difference of two products, of degree k
 pub abs-difference : (k : ℕ) (a b : ℤ) → 2 ≤ k → unsigned_abs a ≤ 2 ^ (k - 2) → unsigned_abs b ≤ 2 ^ (k - 2) → unsigned_abs (a -ℤ b) ≤ 2 ^ (k - 1)
 abs-difference k a b some ha hb =
     let next : k - 1 ≡ suc (k - 2) = omega arith in
@@ -92,15 +100,24 @@ abs-difference k a b some ha hb =
 
 -- the parents of a pair that is read
 pub record AreParents (hall : List Member) (h l r : ℕ) : Type 0 where
+  -- the left parent is a member
   pub left_in : InHall hall l
+  -- so is the right one
   pub right_in : InHall hall r
+  -- the left one comes earlier
   pub left_earlier : l < h
+  -- so does the right one
   pub right_earlier : r < h
+  -- the left one has some degree
   pub left_some : 1 ≤ degree hall l
+  -- so has the right one
   pub right_some : 1 ≤ degree hall r
+  -- no degree is above 8
   pub small : degree hall h ≤ 8
+  -- both degrees add up to that of the pair
   pub sum : degree hall h ≡ degree hall l + degree hall r
 
+-- what is read of a pair of a Hall list
 pub parents-read : (hall : List Member) → IsHallList hall → (h n l r : ℕ) → InHall hall h → get_or hall (h - 1) Letter ≡ Pair n l r → AreParents hall h l r
 parents-read hall list h n l r inside e =
     let ok : IsHall (list.0.depth) hall = list-IsHall hall list in
@@ -117,6 +134,7 @@ parents-read hall list h n l r inside e =
       sum = ap degree_of is ∙ p.sum;
     }
 
+-- the coefficient of a pair that is read, by those of its parents
 pub pair-read : (hall : List Member) (list : IsHallList hall) (h n l r : ℕ) → InHall hall h → get_or hall (h - 1) Letter ≡ Pair n l r → (w : List ℕ) → length w ≡ degree hall h
     → (expansion hall l (take (degree hall l) w) *ℤ expansion hall r (drop (degree hall l) w)) -ℤ (expansion hall r (take (degree hall r) w) *ℤ expansion hall l (drop (degree hall r) w)) ≡ expansion hall h w
 pair-read hall list h n l r inside e w len =
@@ -137,18 +155,24 @@ letter-read hall h inside e w len =
 pub degree-read : (hall : List Member) (h k : ℕ) → InHall hall h → k ≡ degree_of (get_or hall (h - 1) Letter) → k ≡ degree hall h
 degree-read hall h k inside e = e ∙ sym (ap degree_of (member-read hall h Letter (get_or hall (h - 1) Letter) inside refl))
 
+-- a letter has the coefficient 1 at its own word
 pub letter-here : (hall : List Member) (h : ℕ) → InHall hall h → get_or hall (h - 1) Letter ≡ Letter → (w : List ℕ) → length w ≡ degree hall h → get_or w 0 0 ≡ h → pos 1 ≡ expansion hall h w
 letter-here hall h inside e w len here = sym (letter-read hall h inside e w len ∙ ap (λ (b : Bool). cond b (pos 1) (pos 0)) (eq-eqb h (get_or w 0 0) (sym here)))
 
+-- and 0 at the word of another letter
 pub letter-elsewhere : (hall : List Member) (h : ℕ) → InHall hall h → get_or hall (h - 1) Letter ≡ Letter → (w : List ℕ) → length w ≡ degree hall h → (get_or w 0 0 ≡ h → ⊥) → pos 0 ≡ expansion hall h w
 letter-elsewhere hall h inside e w len other = sym (letter-read hall h inside e w len ∙ ap (λ (b : Bool). cond b (pos 1) (pos 0)) (ne_eqb h (get_or w 0 0) (λ here. other (sym here))))
 
 -- the product of two coefficients that are read
 pub record IsProduct (hall : List Member) (i j : ℕ) (w : List ℕ) (a b : ℤ) : Type 0 where
+  -- the product is that of the expansions at the two parts of the word
   pub value : a *ℤ b ≡ expansion hall i (take (degree hall i) w) *ℤ expansion hall j (drop (degree hall i) w)
+  -- it is at most 2 ^ (k - 2) for a word of k letters
   pub bound : unsigned_abs (a *ℤ b) ≤ 2 ^ (length w - 2)
+  -- so it is within the range of a coefficient
   pub in_range : unsigned_abs (a *ℤ b) ≤ limit
 
+-- two coefficients that are read at the front and the rest of a word give such a product
 pub product-read : (hall : List Member) → IsHallList hall → (i j : ℕ) → InHall hall i → InHall hall j → (w front back : List ℕ) (middle : ℕ) (a b : ℤ) → middle ≡ degree_of (get_or hall (i - 1) Letter)
     → length w ≡ degree hall i + degree hall j → front ≡ take middle w → back ≡ drop middle w → length front ≡ middle → length back + middle ≡ length w
     → a ≡ expansion hall i front → b ≡ expansion hall j back → unsigned_abs a ≤ 2 ^ (length front - 1) → unsigned_abs b ≤ 2 ^ (length back - 1) → IsProduct hall i j w a b
@@ -165,11 +189,13 @@ product-read hall list i j hi hj w front back middle a b em len ef eb lf lb va v
     }
 
 -- ---- the loop over the terms at one word
+-- the sum of however many first terms is within the range, where the level of the word's length fits
 pub sum-bound : (hall : List Member) → IsHallList hall → (ts : List Term) → All (λ t. InHall hall t.number) ts → (w : List ℕ) → FitsLevel hall ts (length w) → (n : ℕ) → unsigned_abs (expanded (expansion hall) (take n ts) w) ≤ limit
 sum-bound hall list ts all w fits n =
     le_trans (abs-expanded (list.0.depth) hall (list-IsHall hall list) (take n ts) (All-take (λ t. InHall hall t.number) n ts all) w)
     (le_trans (mul-le-mul_right (2 ^ (length w - 1)) (level_size-part hall (length w) ts n)) fits)
 
+-- so is one term's factor times its coefficient
 pub term-bound : (hall : List Member) (ts : List Term) (i k : ℕ) (c : ℤ) → i < length ts → degree hall (term_at ts i).number ≡ k → unsigned_abs c ≤ 2 ^ (k - 1) → FitsLevel hall ts k → unsigned_abs ((term_at ts i).factor *ℤ c) ≤ limit
 term-bound hall ts i k c lt dk bc fits =
     let f : ℕ = unsigned_abs (term_at ts i).factor in
@@ -177,11 +203,13 @@ term-bound hall ts i k c lt dk bc fits =
     omega (arith, level_size-next hall k ts i lt, ap (λ (b : Bool). cond b f 0) (eq-eqb (degree hall (term_at ts i).number) k dk), level_size-part hall k ts (i + 1)) in
     omega (arith, unsigned_abs-mul (term_at ts i).factor c, mul-le-mul part bc, fits)
 
+-- a term of the word's degree is added
 pub sum-take : (hall : List Member) (ts : List Term) (i : ℕ) (w : List ℕ) (sum part more c : ℤ) → i < length ts → sum ≡ expanded (expansion hall) (take i ts) w → c ≡ expansion hall (term_at ts i).number w
     → part ≡ (term_at ts i).factor *ℤ c → more ≡ sum +ℤ part → more ≡ expanded (expansion hall) (take (i + 1) ts) w
 sum-take hall ts i w sum part more c lt es ec ep em =
     em ∙ ap₂ ◌+ℤ◌ es (ep ∙ ap (λ (z : ℤ). (term_at ts i).factor *ℤ z) ec) ∙ sym (expanded-next (expansion hall) ts i w lt)
 
+-- a term of another degree adds nothing
 pub sum-pass : (hall : List Member) → IsHallList hall → (ts : List Term) → All (λ t. InHall hall t.number) ts → (i : ℕ) (w : List ℕ) (sum : ℤ) → i < length ts → sum ≡ expanded (expansion hall) (take i ts) w
     → (degree hall (term_at ts i).number ≡ length w → ⊥) → sum ≡ expanded (expansion hall) (take (i + 1) ts) w
 sum-pass hall list ts all i w sum lt es other =
@@ -201,18 +229,21 @@ expanded-empty hall list (t ∷ ts) all =
     omega (arith, ints, none, expanded-empty hall list ts (All-tail (λ x. InHall hall x.number) t ts all))
 
 -- ---- whether a level fits
+-- a term of degree k adds its factor to the size that is counted, which stops at 2 ^ 128 - 1
 pub size-take : (hall : List Member) (k : ℕ) (ts : List Term) (i size : ℕ) → i < length ts → size ≡ min (level_size hall k (take i ts)) (2 ^ 128 - 1) → degree hall (term_at ts i).number ≡ k
     → min (size + unsigned_abs (term_at ts i).factor) (2 ^ 128 - 1) ≡ min (level_size hall k (take (i + 1) ts)) (2 ^ 128 - 1)
 size-take hall k ts i size lt es dk =
     let f : ℕ = unsigned_abs (term_at ts i).factor in
     omega (arith, es, level_size-next hall k ts i lt, ap (λ (b : Bool). cond b f 0) (eq-eqb (degree hall (term_at ts i).number) k dk))
 
+-- a term of another degree leaves it
 pub size-pass : (hall : List Member) (k : ℕ) (ts : List Term) (i size : ℕ) → i < length ts → size ≡ min (level_size hall k (take i ts)) (2 ^ 128 - 1) → (degree hall (term_at ts i).number ≡ k → ⊥)
     → size ≡ min (level_size hall k (take (i + 1) ts)) (2 ^ 128 - 1)
 size-pass hall k ts i size lt es other =
     let f : ℕ = unsigned_abs (term_at ts i).factor in
     omega (arith, es, level_size-next hall k ts i lt, ap (λ (b : Bool). cond b f 0) (ne_eqb (degree hall (term_at ts i).number) k other))
 
+-- the size as it is counted tells whether the level fits
 pub fits-decided : (n size room k : ℕ) → size ≡ min n (2 ^ 128 - 1) → room ≡ limit / 2 ^ k → (leb size room ≡ true → n * 2 ^ k ≤ limit) × (n * 2 ^ k ≤ limit → leb size room ≡ true)
 fits-decided n size room k es er =
     let some : 0 < 2 ^ k = pow_pos k in

@@ -7,10 +7,14 @@ use Rattle.scaled_tensor.specs.Tensors.{TensorValue, coefficient}
 
 -- the words of k letters up to a number have the values of f, those of other lengths what they had
 pub record IsWritten (extent : Extent) (k : ℕ) (f : List ℕ → ℤ) (old now : TensorValue) (n : ℕ) : Type 0 where
+  -- the extent stays
   pub same_extent : now.extent ≡ extent
+  -- the first n words of k letters have what is written
   pub written : (word : List ℕ) → IsWord extent word → length word ≡ k → number extent.width word < n → coefficient now word ≡ f word
+  -- words of other lengths are as they were
   pub others : (word : List ℕ) → IsWord extent word → length word ≢ k → coefficient now word ≡ coefficient old word
 
+-- the word of number n is written
 pub written-next : (extent : Extent) (k : ℕ) (f : List ℕ → ℤ) (old before now : TensorValue) (n : ℕ) (w : List ℕ) → IsWritten extent k f old before n
     → IsWord extent w → length w ≡ k → number extent.width w ≡ n → coefficient now w ≡ f w → now.extent ≡ before.extent
     → ((word : List ℕ) → IsWord before.extent word → word ≢ w → coefficient now word ≡ coefficient before word) → IsWritten extent k f old now (n + 1)

@@ -14,3 +14,4 @@ pub mod Masses
 pub mod TableSteps
 pub mod PairOrder
 pub mod TableLoop
+pub mod MoveTerms

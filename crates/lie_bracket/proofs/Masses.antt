@@ -7,9 +7,9 @@ use Rattle.std.proofs.lemmas.Bool.{cases_eq, eq-eqb, ne_eqb}
 use Rattle.std.proofs.lemmas.List.Elements.{All-head, All-tail}
 use Rattle.definitions.specs.Sums.{count_below}
 use Rattle.definitions.proofs.SumLaws.{count_below-add, count_below-same, count_below-le}
-use Rattle.hall_set.specs.Hall.{member, degree, number_of}
-use Rattle.hall_set.specs.declared.member.Member.{Member}
-use Rattle.hall_set.specs.declared.member.Member.TheVariants.{Letter, Pair}
+use Rattle.definitions.specs.Hall.{member, degree, number_of}
+use Rattle.definitions.specs.declared.member.Member.{Member}
+use Rattle.definitions.specs.declared.member.Member.TheVariants.{Letter, Pair}
 use Rattle.lie_bracket.specs.declared.term.Term.{Term}
 use Rattle.lie_bracket.specs.declared.sign.Sign.TheVariants.{Minus, Plus}
 use Rattle.lie_bracket.specs.Brackets.{term, scaled, over_terms, coefficient, mass, by_parents, by_number, by_degree, bracket_within, enough, bracket, majorant}
@@ -18,6 +18,7 @@ use Rattle.lie_bracket.proofs.SumSteps.{abs-coefficient_at}
 use Rattle.lie_bracket.proofs.NonzeroLaws.{sizes-nonzero}
 
 -- ---- the majorant has the bracket's terms without their signs
+-- the absolute value, as an integer
 abbrev pub size : ℤ → ℤ
 size k = pos (unsigned_abs k)
 
@@ -39,6 +40,7 @@ scaled-mul_size : (k : ℤ) (xs : List Term) → scaled (λ n. size k *ℤ n) (s
 scaled-mul_size k [] = refl
 scaled-mul_size k (t ∷ xs) = ap₂ (λ (n : ℤ) (ts : List Term). term n t.number ∷ ts) (sym (size-mul k t.factor)) (scaled-mul_size k xs)
 
+-- a sum of absolute factors times absolute factors is the absolute of the sum, term by term
 pub over-size : (xs : List Term) (f g : ℕ → List Term) → ((c : ℕ) → g c ≡ scaled size (f c)) → over_terms (scaled size xs) g ≡ scaled size (over_terms xs f)
 over-size [] f g same = refl
 over-size (t ∷ xs) f g same =
@@ -46,6 +48,7 @@ over-size (t ∷ xs) f g same =
     ∙ ap (λ (x : List Term). x ++ scaled size (over_terms xs f)) (scaled-mul_size t.factor (f t.number))
     ∙ sym (scaled-append size (scaled (λ k. t.factor *ℤ k) (f t.number)) (over_terms xs f))
 
+-- the one bracket is the other one with its factors made absolute
 abbrev pub Sizes : (plus rest : ℕ → ℕ → List Term) → Type 0
 Sizes plus rest = (a b : ℕ) → plus a b ≡ scaled size (rest a b)
 
@@ -82,10 +85,12 @@ cond-pos : (b : Bool) (n : ℕ) → cond b (pos n) (pos 0) ≡ pos (cond b n 0)
 cond-pos true n = refl
 cond-pos false n = refl
 
+-- the factor of h with all factors made absolute is the sum of the absolute factors of h
 pub coefficient-size : (h : ℕ) (ts : List Term) → coefficient h (scaled size ts) ≡ pos (size_at h ts)
 coefficient-size h [] = refl
 coefficient-size h (t ∷ ts) = ap₂ ◌+ℤ◌ (cond-pos (eqb t.number h) (unsigned_abs t.factor)) (coefficient-size h ts)
 
+-- the mass with all factors made absolute is the size
 pub mass-size : (ts : List Term) → mass (scaled size ts) ≡ pos (sizes ts)
 mass-size [] = refl
 mass-size (t ∷ ts) = ap (λ (z : ℤ). size t.factor +ℤ z) (mass-size ts)
@@ -121,6 +126,7 @@ sizes-at n (t ∷ ts) all =
     ∙ ap₂ ◌+◌ (one-size n t.number (unsigned_abs t.factor) here.0 here.1) (sizes-at n ts (All-tail (λ x. (1 ≤ x.number) × (x.number ≤ n)) t ts all))
 
 -- ---- the entries of a pair
+-- an entry of the majorant has the majorant's mass as its size
 pub sizes-majorant : (depth : ℕ) (hall : List Member) (a b : ℕ) → Numbers (length hall) (bracket depth hall a b) → sizes (entry_of Plus depth hall a b) ≡ unsigned_abs (mass (majorant depth hall a b))
 sizes-majorant depth hall a b all =
     let ts : List Term = bracket depth hall a b in
@@ -130,6 +136,7 @@ sizes-majorant depth hall a b all =
     ∙ sizes-at (length hall) ts all
     ∙ sym (ap (λ (xs : List Term). unsigned_abs (mass xs)) (majorant-size depth hall a b) ∙ ap unsigned_abs (mass-size ts))
 
+-- an entry of the bracket is at most that large
 pub sizes-bracket : (depth : ℕ) (hall : List Member) (a b : ℕ) → Numbers (length hall) (bracket depth hall a b) → sizes (entry_of Minus depth hall a b) ≤ unsigned_abs (mass (majorant depth hall a b))
 sizes-bracket depth hall a b all =
     let ts : List Term = bracket depth hall a b in

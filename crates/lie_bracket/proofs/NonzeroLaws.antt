@@ -15,15 +15,18 @@ use Rattle.lie_bracket.specs.Entries.{sizes, size_at, Numbers}
 use Rattle.lie_bracket.proofs.TermSums.{coefficient-append}
 use Rattle.lie_bracket.proofs.SumSteps.{sizes-append}
 
+-- what passes the test is 0
 pub is_zero-true : (z : ℤ) → is_zero z ≡ true → z ≡ pos 0
 is_zero-true (pos zero) h = refl
 is_zero-true (pos (suc n)) h = cc
 is_zero-true (negsuc n) h = cc
 
+-- 0 with or without a condition
 cond-none : (b : Bool) → cond b (pos 0) (pos 0) ≡ pos 0
 cond-none true = refl
 cond-none false = refl
 
+-- the factor of h in the last term, which stands where it isn't 0
 last-coefficient : (z : ℤ) (h k : ℕ) → coefficient h (cond (is_zero z) [] (term z k ∷ [])) ≡ cond (eqb k h) z (pos 0)
 last-coefficient z h k =
     elim (cases_Bool (is_zero z)) [
@@ -39,6 +42,7 @@ coefficient-nonzero_past (suc n) f h lt =
     ∙ ap₂ ◌+ℤ◌ (coefficient-nonzero_past n f h (omega arith))
     (last-coefficient (f (suc n)) h (suc n) ∙ ap (λ (b : Bool). cond b (f (suc n)) (pos 0)) (ne_eqb (suc n) h (λ e. omega arith)))
 
+-- the list gives back each factor, those that are 0 too
 pub coefficient-nonzero : (n : ℕ) (f : ℕ → ℤ) (h : ℕ) → 1 ≤ h → h ≤ n → coefficient h (nonzero n f) ≡ f h
 coefficient-nonzero zero f h least most = absurd (omega arith)
 coefficient-nonzero (suc n) f h least most =
@@ -50,6 +54,7 @@ coefficient-nonzero (suc n) f h least most =
     ]
 
 -- ---- the same factors give the same list
+-- the lists of the same factors are the same
 pub nonzero-same : (n : ℕ) (f g : ℕ → ℤ) → ((h : ℕ) → 1 ≤ h → h ≤ n → f h ≡ g h) → nonzero n f ≡ nonzero n g
 nonzero-same zero f g same = refl
 nonzero-same (suc n) f g same =
@@ -59,6 +64,7 @@ nonzero-same (suc n) f g same =
 abbrev IsOf : ℕ → ℕ → (ℤ → Type 0) → Term → Type 0
 IsOf least most P t = (least ≤ t.number) × (t.number ≤ most) × (t.factor ≢ pos 0) × P t.factor
 
+-- the last term has the last number
 last-of : (P : ℤ → Type 0) (z : ℤ) (n : ℕ) → P z → All (IsOf (suc n) (suc n) P) (cond (is_zero z) [] (term z (suc n) ∷ []))
 last-of P z n h =
     elim (cases_Bool (is_zero z)) [
@@ -91,6 +97,7 @@ nonzero-rises (suc n) f =
     (All-crossed (IsOf 1 n (λ z. Unit {0})) (IsOf (suc n) (suc n) (λ z. Unit {0})) (λ s t. s.number < t.number) (nonzero n f) last (nonzero-of (λ z. Unit {0}) n f (λ h least most. tt)) (last-of (λ z. Unit {0}) (f (suc n)) n tt)
     (λ s t hs ht. omega (arith, hs.1, ht.0)))
 
+-- the list is a Lie element, where its factors are within the range
 pub nonzero-IsElement : (n : ℕ) (f : ℕ → ℤ) → ((h : ℕ) → 1 ≤ h → h ≤ n → unsigned_abs (f h) ≤ limit) → IsElement (nonzero n f)
 nonzero-IsElement n f within =
     let each : All (IsOf 1 n (λ z. unsigned_abs z ≤ limit)) (nonzero n f) = nonzero-of (λ z. unsigned_abs z ≤ limit) n f within in
@@ -101,6 +108,7 @@ nonzero-IsElement n f within =
       in_range = All-weaker (IsOf 1 n (λ z. unsigned_abs z ≤ limit)) (λ t. unsigned_abs t.factor ≤ limit) (λ t h. h.3) (nonzero n f) each;
     }
 
+-- its numbers are from 1 to n
 pub nonzero-Numbers : (n : ℕ) (f : ℕ → ℤ) → Numbers n (nonzero n f)
 nonzero-Numbers n f = All-weaker (IsOf 1 n (λ z. Unit {0})) (λ t. (1 ≤ t.number) × (t.number ≤ n)) (λ t h. (h.0, h.1)) (nonzero n f) (nonzero-of (λ z. Unit {0}) n f (λ h least most. tt))
 
@@ -112,6 +120,7 @@ last-sizes z h =
       | inr some ↦ ap (λ (b : Bool). sizes (cond b [] (term z h ∷ []))) some ∙ omega arith
     ]
 
+-- its size is the sum of the absolute factors
 pub sizes-nonzero : (n : ℕ) (f : ℕ → ℤ) → sizes (nonzero n f) ≡ count_below n (λ i. unsigned_abs (f (suc i)))
 unfolding count_below
 sizes-nonzero zero f = refl
@@ -145,6 +154,7 @@ size_at-nonzero_past (suc n) f h lt =
       ap (λ (b : Bool). cond b (unsigned_abs (f (suc n))) 0) (ne_eqb (suc n) h (λ e. omega arith)),
     )
 
+-- the absolute factor of h alone
 pub size_at-nonzero : (n : ℕ) (f : ℕ → ℤ) (h : ℕ) → 1 ≤ h → h ≤ n → size_at h (nonzero n f) ≡ unsigned_abs (f h)
 size_at-nonzero zero f h least most = absurd (omega arith)
 size_at-nonzero (suc n) f h least most =

@@ -6,8 +6,8 @@ use Rattle.std.proofs.lemmas.List.{append_assoc, append-nil, map-append, get_or_
 use Rattle.std.proofs.lemmas.List.Elements.{All-nil, All-cons, All-head, All-tail, All-map, All-weaker, filter_passes, filter-append}
 use Rattle.std.proofs.lemmas.List.Kept.{AllPairs-cons, AllPairs-filter}
 use Rattle.definitions.specs.Words.{up_to}
-use Rattle.hall_set.specs.Hall.{InHall, degree}
-use Rattle.hall_set.specs.declared.member.Member.{Member}
+use Rattle.definitions.specs.Hall.{InHall, degree}
+use Rattle.definitions.specs.declared.member.Member.{Member}
 use Rattle.hall_set.proofs.Lists.{All-flat_map, All-from_flat_map, All-from_map, All-kept, All-from_kept, All-up_to, up_to-each, AllPairs-nil, AllPairs-map, AllPairs-flat_map, All-crossed, up_to-rises}
 use Rattle.hall_set.proofs.GrownLists.{IsHall}
 use Rattle.lie_bracket.specs.Tables.{down_from, pairs_at, pairs_in_order, is_heavy, heavy_pair}
@@ -38,6 +38,7 @@ record IsAt (hall : List Member) (sum a : ℕ) (pair : ℕ × ℕ) : Type 0 wher
   in_order : a < pair.1
   total : degree hall a + degree hall (pair.1) ≡ sum
 
+-- a comes before b, and their degrees add up to the sum
 abbrev pub is_fit : List Member → ℕ → ℕ → ℕ → Bool
 is_fit hall sum a b = ltb a b && eqb (degree hall a + degree hall b) sum
 
@@ -64,9 +65,11 @@ pairs_of_sum-all hall sum =
     (All-down_from (λ a. All (IsOfSum hall sum) (pairs_at hall sum a)) (length hall)
     (λ a least most. All-weaker (IsAt hall sum a) (IsOfSum hall sum) (at-of_sum hall sum a (record { least = least; most = most })) (pairs_at hall sum a) (pairs_at-all hall sum a)))
 
+-- the pair is one of members whose degrees add up to at most the depth
 abbrev pub IsPairAt : ℕ → List Member → ℕ × ℕ → Type 0
 IsPairAt depth hall pair = IsPair depth hall (pair.0) (pair.1)
 
+-- each pair of the list is one
 pub pairs-valid : (depth : ℕ) (hall : List Member) → All (IsPairAt depth hall) (pairs_in_order depth hall)
 pairs-valid depth hall =
     All-flat_map (IsPairAt depth hall) (λ sum. flat_map (pairs_at hall sum) (down_from (length hall))) (up_to depth)
@@ -88,6 +91,7 @@ pairs-each P depth hall ok all a b pair =
     b pair.right.least pair.right.most (ap₂ ◌&&◌ (lt-ltb a b pair.in_order) (eq-eqb sum sum refl))
 
 -- ---- their order
+-- the pair p comes before q
 abbrev pub Comes : List Member → ℕ × ℕ → ℕ × ℕ → Type 0
 Comes hall p q = IsEarlier hall (p.0) (p.1) (q.0) (q.1)
 
@@ -116,6 +120,7 @@ pairs_of_sum-ordered hall sum =
     (λ a c lt. All-crossed (IsAt hall sum a) (IsAt hall sum c) (Comes hall) (pairs_at hall sum a) (pairs_at hall sum c) (pairs_at-all hall sum a) (pairs_at-all hall sum c) (λ p q hp hq. falling-left hall sum a c p q lt hp hq))
     (down_from-falls (length hall))
 
+-- each pair of the list comes before the later ones
 pub pairs-ordered : (depth : ℕ) (hall : List Member) → AllPairs (Comes hall) (pairs_in_order depth hall)
 pairs-ordered depth hall =
     AllPairs-flat_map (λ s t. s < t) (Comes hall) (λ sum. flat_map (pairs_at hall sum) (down_from (length hall))) (up_to depth) (λ k d lt. pairs_of_sum-ordered hall _)
@@ -164,22 +169,26 @@ find-none : {X : Type 0} (p : X → Bool) (xs : List X) → All (λ x. p x ≡ f
 find-none p [] h = refl
 find-none p (x ∷ xs) h = cond-false (p x) (Some x) (find p xs) (All-head (λ z. p z ≡ false) x xs h) ∙ find-none p xs (All-tail (λ z. p z ≡ false) x xs h)
 
+-- the first that passes is the one that is found
 find-first : {X : Type 0} (p : X → Bool) (xs : List X) (d : X) (k : ℕ) → k < length xs → ((i : ℕ) → i < k → p (get_or xs i d) ≡ false) → p (get_or xs k d) ≡ true → find p xs ≡ Some (get_or xs k d)
 find-first p [] d k lt before here = absurd (omega arith)
 find-first p (x ∷ xs) d zero lt before here = cond-true (p x) (Some x) (find p xs) here
 find-first p (x ∷ xs) d (suc k) lt before here =
     cond-false (p x) (Some x) (find p xs) (before 0 (omega arith)) ∙ find-first p xs d k (omega arith) (λ i l. before (suc i) (omega arith)) here
 
+-- where no pair is heavy, none is found
 pub no-heavy_pair : (depth : ℕ) (hall : List Member) → All (λ pair. is_heavy depth hall pair ≡ false) (pairs_in_order depth hall) → heavy_pair depth hall ≡ None
 unfolding heavy_pair
 no-heavy_pair depth hall light = find-none (is_heavy depth hall) (pairs_in_order depth hall) light
 
+-- the first heavy pair is found
 pub first-heavy_pair : (depth : ℕ) (hall : List Member) (d : ℕ × ℕ) (k : ℕ) → k < length (pairs_in_order depth hall) → ((i : ℕ) → i < k → is_heavy depth hall (get_or (pairs_in_order depth hall) i d) ≡ false)
     → is_heavy depth hall (get_or (pairs_in_order depth hall) k d) ≡ true → heavy_pair depth hall ≡ Some (get_or (pairs_in_order depth hall) k d)
 unfolding heavy_pair
 first-heavy_pair depth hall d k lt before here = find-first (is_heavy depth hall) (pairs_in_order depth hall) d k lt before here
 
 -- ---- the loop down
+-- of the numbers that fall to 1, one more is done
 pub down-more : (f : ℕ → List (ℕ × ℕ)) (len done : ℕ) (items more whole : List (ℕ × ℕ)) → done < len → items ++ flat_map f (down_from (len - done)) ≡ whole → more ≡ items ++ f (len - done)
     → more ++ flat_map f (down_from (len - (done + 1))) ≡ whole
 down-more f len done items more whole lt before next =
@@ -192,6 +201,7 @@ down-more f len done items more whole lt before next =
     ∙ before
 
 -- ---- the loop over b
+-- the pair of two numbers
 abbrev pub paired : ℕ → ℕ → ℕ × ℕ
 paired a b = (a, b)
 
@@ -213,6 +223,7 @@ pairs_below-next hall sum a k t fits =
     (mapped-cond (is_fit hall sum a (suc k)) a (suc k)
     ∙ ap₂ (λ (u : Bool) (n : ℕ). cond u ((a, n) ∷ []) []) (ap (is_fit hall sum a) (sym one) ∙ fits) (sym one))
 
+-- the number k + 1 makes a pair with a, which is added
 pub pair-kept : (hall : List Member) (sum a k : ℕ) (t : Bool) (start items more : List (ℕ × ℕ)) → t ≡ is_fit hall sum a (k + 1) → t ≡ true → items ≡ start ++ pairs_below hall sum a k → more ≡ items ++ (a, k + 1) ∷ []
     → more ≡ start ++ pairs_below hall sum a (k + 1)
 pair-kept hall sum a k t start items more is yes' before next =
@@ -221,6 +232,7 @@ pair-kept hall sum a k t start items more is yes' before next =
     ∙ append_assoc start (pairs_below hall sum a k) ((a, k + 1) ∷ [])
     ∙ ap (λ (x : List (ℕ × ℕ)). start ++ x) (sym (pairs_below-next hall sum a k true (sym is ∙ yes')))
 
+-- it makes none
 pub pair-passed : (hall : List Member) (sum a k : ℕ) (t : Bool) (start items : List (ℕ × ℕ)) → t ≡ is_fit hall sum a (k + 1) → t ≡ false → items ≡ start ++ pairs_below hall sum a k → items ≡ start ++ pairs_below hall sum a (k + 1)
 pair-passed hall sum a k t start items is no' before =
     before ∙ ap (λ (x : List (ℕ × ℕ)). start ++ x) (sym (pairs_below-next hall sum a k false (sym is ∙ no') ∙ append-nil (pairs_below hall sum a k)))

@@ -5,7 +5,7 @@ use Rattle.std.specs.BTreeMap.{BTreeMap}
 use Rattle.std.proofs.lemmas.Bool.{cases_eq, lt-ltb, le-ltb}
 use Rattle.std.proofs.lemmas.List.{get_or_default}
 use Rattle.std.proofs.lemmas.List.Elements.{All-from_get_or}
-use Rattle.hall_set.specs.declared.member.Member.{Member}
+use Rattle.definitions.specs.declared.member.Member.{Member}
 use Rattle.hall_set.proofs.GrownLists.{IsHall}
 use Rattle.lie_bracket.specs.declared.term.Term.{Term}
 use Rattle.lie_bracket.specs.declared.sign.Sign.{Sign}
@@ -28,13 +28,20 @@ pair-read depth hall pairs k p is lt read = read ∙ get_or_default pairs k p (0
 
 -- the first k pairs have their entries
 pub record IsFilled (sign : Sign) (depth : ℕ) (hall : List Member) (m : BTreeMap (ℕ × ℕ) (List Term)) (k : ℕ) : Type 0 where
+  -- each of the first k pairs has its entry
   pub entries : (i : ℕ) → i < k → stored m ((pair_at depth hall i).0) ((pair_at depth hall i).1) ≡ entry_of sign depth hall ((pair_at depth hall i).0) ((pair_at depth hall i).1)
+  -- what is no pair has none
   pub others : (a b : ℕ) → (IsPair depth hall a b → ⊥) → stored m a b ≡ []
+  -- each entry has members of the list and a size of at most 2 ^ 40
   pub small : AreSmall (length hall) m
 
+-- both tables have the first k pairs, none of which is heavy
 pub record IsBuilt (depth : ℕ) (hall : List Member) (majorants brackets : BTreeMap (ℕ × ℕ) (List Term)) (k : ℕ) : Type 0 where
+  -- the majorants
   pub majorants_filled : IsFilled Plus depth hall majorants k
+  -- the brackets
   pub brackets_filled : IsFilled Minus depth hall brackets k
+  -- none of these pairs has a majorant above 2 ^ 40
   pub light : (i : ℕ) → i < k → is_heavy depth hall (pair_at depth hall i) ≡ false
 
 -- all pairs before the k-th one are done
@@ -43,6 +50,7 @@ pub filled-done : (sign : Sign) (depth : ℕ) (hall : List Member) → IsHall de
 filled-done sign depth hall ok m k lt filled c d pair early =
     earlier-each (λ x y. stored m x y ≡ entry_of sign depth hall x y) depth hall ok k (0, 0) lt filled.entries c d pair early
 
+-- the k-th pair is one of members whose degrees add up to at most the depth
 pub pair-valid : (depth : ℕ) (hall : List Member) (k : ℕ) → k < length (pairs_in_order depth hall) → IsPair depth hall ((pair_at depth hall k).0) ((pair_at depth hall k).1)
 pair-valid depth hall k lt = pairs-valid depth hall k (0, 0) lt
 
@@ -85,12 +93,15 @@ filled-next sign depth hall old new k a b z lt filled here is light same rest =
 mass-size : (depth : ℕ) (hall : List Member) → IsHall depth hall → (a b : ℕ) (z : List Term) → IsPair depth hall a b → z ≡ entry_of Plus depth hall a b → sizes z ≡ unsigned_abs (mass (majorant depth hall a b))
 mass-size depth hall ok a b z pair is = ap sizes is ∙ sizes-majorant depth hall a b (bracket_by-Numbers Minus depth hall ok a b pair.left pair.right)
 
+-- an entry of a majorant above 2 ^ 40 makes its pair heavy
 pub heavy-size : (depth : ℕ) (hall : List Member) → IsHall depth hall → (a b : ℕ) (z : List Term) → IsPair depth hall a b → z ≡ entry_of Plus depth hall a b → (sizes z ≤ 2 ^ 40 → ⊥) → is_heavy depth hall (a, b) ≡ true
 heavy-size depth hall ok a b z pair is past = lt-ltb (2 ^ 40) (unsigned_abs (mass (majorant depth hall a b))) (omega (arith, mass-size depth hall ok a b z pair is))
 
+-- and one up to 2 ^ 40 doesn't
 pub light-size : (depth : ℕ) (hall : List Member) → IsHall depth hall → (a b : ℕ) (z : List Term) → IsPair depth hall a b → z ≡ entry_of Plus depth hall a b → sizes z ≤ 2 ^ 40 → is_heavy depth hall (a, b) ≡ false
 light-size depth hall ok a b z pair is small = le-ltb (2 ^ 40) (unsigned_abs (mass (majorant depth hall a b))) (omega (arith, mass-size depth hall ok a b z pair is))
 
+-- the bracket's entry is then at most 2 ^ 40, too
 pub bracket-size : (depth : ℕ) (hall : List Member) → IsHall depth hall → (a b : ℕ) (z y : List Term) → IsPair depth hall a b → z ≡ entry_of Plus depth hall a b → sizes z ≤ 2 ^ 40 → y ≡ entry_of Minus depth hall a b → sizes y ≤ 2 ^ 40
 bracket-size depth hall ok a b z y pair is small is-bracket =
     omega (arith, ap sizes is-bracket, mass-size depth hall ok a b z pair is, sizes-bracket depth hall a b (bracket_by-Numbers Minus depth hall ok a b pair.left pair.right))
@@ -106,6 +117,7 @@ filled-table sign depth hall ok m k filled all =
       small = filled.small;
     }
 
+-- once all pairs are in, the tables are those of the depth
 pub built-tables : (depth : ℕ) (hall : List Member) → IsHall depth hall → (majorants brackets : BTreeMap (ℕ × ℕ) (List Term)) (k : ℕ) → IsBuilt depth hall majorants brackets k → length (pairs_in_order depth hall) ≤ k → AreTables depth hall brackets majorants
 built-tables depth hall ok majorants brackets k built all =
     record {

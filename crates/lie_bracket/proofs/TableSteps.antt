@@ -10,9 +10,9 @@ use Rattle.definitions.specs.Words.{Extent, IsShape}
 use Rattle.definitions.specs.Signature.{limit}
 use Rattle.definitions.proofs.Integers.{zero-mul_ℤ, one-mul_ℤ, abs-add}
 use Rattle.definitions.proofs.SumLaws.{sum_below-same}
-use Rattle.hall_set.specs.Hall.{InHall, member, degree, degree_of, number_of, hall_list}
-use Rattle.hall_set.specs.declared.member.Member.{Member}
-use Rattle.hall_set.specs.declared.member.Member.TheVariants.{Letter, Pair}
+use Rattle.definitions.specs.Hall.{InHall, member, degree, degree_of, number_of, hall_list}
+use Rattle.definitions.specs.declared.member.Member.{Member}
+use Rattle.definitions.specs.declared.member.Member.TheVariants.{Letter, Pair}
 use Rattle.hall_set.proofs.GrownLists.{IsHall, IsPairOf, IsLate, hall_list-IsHall}
 use Rattle.lie_bracket.specs.declared.term.Term.{Term}
 use Rattle.lie_bracket.specs.declared.sign.Sign.{Sign}
@@ -28,19 +28,23 @@ use Rattle.lie_bracket.proofs.NonzeroLaws.{coefficient-nonzero, nonzero-Numbers,
 use Rattle.lie_bracket.proofs.EntryLaws.{looked_up-below, looked_up-above, looked_up-same}
 
 -- ---- the bracket and the majorant alike
+-- brackets and majorants meet the equations, with their sign
 pub bracket_by-IsBracket : (sign : Sign) (depth : ℕ) (hall : List Member) → IsHall depth hall → IsBracket (signed sign) depth hall (bracket_by sign depth hall)
 bracket_by-IsBracket Minus depth hall ok = bracket-IsBracket depth hall ok
 bracket_by-IsBracket Plus depth hall ok = majorant-IsBracket depth hall ok
 
+-- their terms are members of the degree of a and b together
 pub bracket_by-terms : (sign : Sign) (depth : ℕ) (hall : List Member) → IsHall depth hall → (a b : ℕ) → InHall hall a → InHall hall b → All (IsTermOf hall (degree hall a + degree hall b)) (bracket_by sign depth hall a b)
 unfolding bracket majorant
 bracket_by-terms Minus depth hall ok a b ha hb = bracket_within-terms depth hall neg_ℤ ok (enough depth hall) a b ha hb
 bracket_by-terms Plus depth hall ok a b ha hb = bracket_within-terms depth hall (λ k. k) ok (enough depth hall) a b ha hb
 
+-- so their numbers are those of members
 pub bracket_by-Numbers : (sign : Sign) (depth : ℕ) (hall : List Member) → IsHall depth hall → (a b : ℕ) → InHall hall a → InHall hall b → Numbers (length hall) (bracket_by sign depth hall a b)
 bracket_by-Numbers sign depth hall ok a b ha hb =
     All-weaker (IsTermOf hall (degree hall a + degree hall b)) (λ t. (1 ≤ t.number) × (t.number ≤ length hall)) (λ t h. (h.inside.least, h.inside.most)) (bracket_by sign depth hall a b) (bracket_by-terms sign depth hall ok a b ha hb)
 
+-- a member of another degree has the factor 0
 pub coefficient-other : (h : ℕ) (hall : List Member) (k : ℕ) (ts : List Term) → All (IsTermOf hall k) ts → (degree hall h ≡ k → ⊥) → coefficient h ts ≡ pos 0
 coefficient-other h hall k [] all ne = refl
 coefficient-other h hall k (t ∷ ts) all ne =
@@ -132,6 +136,7 @@ found-factors sign depth hall ok a b n h pair e =
 pub no-letter : (depth : ℕ) (hall : List Member) → IsHall depth hall → (a b : ℕ) → IsPair depth hall a b → number_of hall a b ≡ 0 → member hall b ≡ Letter → ⊥
 no-letter depth hall ok a b pair none em = subst (IsLate a) em (ok.complete a b pair.left pair.right pair.in_order pair.deep none)
 
+-- where there is a pair, the depth is not 0
 pub pair-IsHall : (width depth a b : ℕ) → IsPair depth (hall_list width depth) a b → IsHall depth (hall_list width depth)
 pair-IsHall width zero a b pair =
     let letters : IsHall 1 (hall_list width 0) = hall_list-IsHall width 1 (omega arith) in
@@ -147,9 +152,12 @@ abs-over n sign m small a x y h =
 
 -- the sum after the first side, and after both
 pub record IsSplit (sign : Sign) (m : BTreeMap (ℕ × ℕ) (List Term)) (a l r i : ℕ) (first : ℤ) : Type 0 where
+  -- the first side is the factor in the bracket of [a, l] with r
   pub value : first ≡ coefficient (suc i) (over_terms (stored m a l) (λ c. looked_up sign m c r))
+  -- it has at most 80 bits
   pub within : unsigned_abs first ≤ 2 ^ 80
 
+-- the first side, as it is added to nothing
 pub first-side : (n : ℕ) (sign : Sign) (m : BTreeMap (ℕ × ℕ) (List Term)) → AreSmall n m → (a l r i : ℕ) (old first : ℤ) (xs : List Term) → old ≡ pos 0 → xs ≡ stored m a l
     → first ≡ old +ℤ (pos 1 *ℤ coefficient (suc i) (over_terms xs (λ c. looked_up sign m c r))) → IsSplit sign m a l r i first
 first-side n sign m small a l r i old first xs none is e =
@@ -160,14 +168,17 @@ first-side n sign m small a l r i old first xs none is e =
     ∙ omega (arith, ints) in
     record { value = value; within = omega (arith, ap unsigned_abs value, abs-over n sign m small a l r (suc i)) }
 
+-- the sign as a factor has the absolute value 1
 abs-sign : (sign : Sign) (k : ℤ) → k ≡ signed sign (pos 1) → unsigned_abs k ≡ 1
 abs-sign sign k e = ap unsigned_abs e ∙ abs-signed sign (pos 1)
 
+-- there is room for the second side
 pub second-room : (n : ℕ) (sign : Sign) (m : BTreeMap (ℕ × ℕ) (List Term)) → AreSmall n m → (a l r i : ℕ) (first k : ℤ) (ys : List Term) → IsSplit sign m a l r i first → k ≡ signed sign (pos 1) → ys ≡ stored m a r
     → unsigned_abs first + unsigned_abs k * sizes ys * 2 ^ 40 ≤ limit
 second-room n sign m small a l r i first k ys half ek is =
     omega (arith, half.within, ap (λ (x : ℕ). x * sizes ys * 2 ^ 40) (abs-sign sign k ek), ap sizes is, (small a r).1)
 
+-- after both sides the sum is the factor of the bracket, and within the range
 pub both-sides : (n : ℕ) (sign : Sign) (m : BTreeMap (ℕ × ℕ) (List Term)) → AreSmall n m → (a l r i : ℕ) (first second k : ℤ) (ys : List Term) → IsSplit sign m a l r i first → k ≡ signed sign (pos 1) → ys ≡ stored m a r
     → second ≡ first +ℤ (k *ℤ coefficient (suc i) (over_terms ys (λ c. looked_up sign m c l)))
     → (second ≡ coefficient (suc i) (over_terms (stored m a l) (λ c. looked_up sign m c r)) +ℤ signed sign (coefficient (suc i) (over_terms (stored m a r) (λ c. looked_up sign m c l)))) × (unsigned_abs second ≤ limit)
@@ -197,6 +208,7 @@ found-value sign depth hall ok a b n i sum pair inside e len zeros within =
     ]
 
 -- ---- a whole table
+-- brackets that are looked up in a whole table have the factors of the definition's
 pub table-factors : (sign : Sign) (depth : ℕ) (hall : List Member) → IsHall depth hall → (m : BTreeMap (ℕ × ℕ) (List Term)) → IsTable sign depth hall m → (c d h : ℕ) → InHall hall c → InHall hall d → 1 ≤ h → h ≤ length hall
     → coefficient h (looked_up sign m c d) ≡ coefficient h (bracket_by sign depth hall c d)
 table-factors sign depth hall ok m table c d h hc hd least most =
@@ -248,6 +260,7 @@ sums-factors sign depth hall ok m table xs ys hx hy h least most =
     (λ u hu. table-factors sign depth hall ok m table u.number t.number h hu ht least most) xs hx))
     ys hy)
 
+-- a bracket of two sums has no number but those of members
 pub sums-outside : (sign : Sign) (depth : ℕ) (hall : List Member) → IsHall depth hall → (xs ys : List Term) → All (λ t. InHall hall t.number) xs → All (λ t. InHall hall t.number) ys → (h : ℕ) → (1 ≤ h → h ≤ length hall → ⊥)
     → coefficient h (bracket_sums (bracket_by sign depth hall) xs ys) ≡ pos 0
 sums-outside sign depth hall ok xs ys hx hy h outside =

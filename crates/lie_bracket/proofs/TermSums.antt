@@ -13,22 +13,27 @@ use Rattle.lie_bracket.specs.declared.term.Term.{Term}
 use Rattle.lie_bracket.specs.Brackets.{scaled, over_terms, coefficient, expanded}
 use Rattle.shuffle.proofs.ShuffleSums.{add-mul_ℤ}
 use Rattle.shuffle.proofs.DualLaws.{neg-mul}
-use Rattle.lie_bracket.proofs.CommutatorLaws.{concatenated-zero_left, concatenated-zero_right, commutator-products, commutator-next_left, commutator-next_right}
+use Rattle.lie_steps.proofs.Primitives.{commutator-joined}
+use Rattle.lie_bracket.proofs.CommutatorLaws.{joined-zero_left, joined-zero_right, commutator-next_left, commutator-next_right}
 
 -- ---- expansions
+-- the expansion of two joined lists
 pub expanded-append : (e : ℕ → List ℕ → ℤ) (xs ys : List Term) (w : List ℕ) → expanded e (xs ++ ys) w ≡ expanded e xs w +ℤ expanded e ys w
 expanded-append e [] ys w = omega (arith, ints)
 expanded-append e (t ∷ xs) ys w = omega (arith, ints, expanded-append e xs ys w)
 
+-- the expansion of a multiple
 pub expanded-mul : (e : ℕ → List ℕ → ℤ) (k : ℤ) (xs : List Term) (w : List ℕ) → expanded e (scaled (λ n. k *ℤ n) xs) w ≡ k *ℤ expanded e xs w
 expanded-mul e k [] w = sym (*ℤ-zero k)
 expanded-mul e k (t ∷ xs) w =
     ap₂ ◌+ℤ◌ (mul_assoc_ℤ k t.factor (e t.number w)) (expanded-mul e k xs w) ∙ sym (mul-add_ℤ k (t.factor *ℤ e t.number w) (expanded e xs w))
 
+-- the expansion with all signs changed
 pub expanded-neg : (e : ℕ → List ℕ → ℤ) (xs : List Term) (w : List ℕ) → expanded e (scaled neg_ℤ xs) w ≡ neg_ℤ (expanded e xs w)
 expanded-neg e [] w = refl
 expanded-neg e (t ∷ xs) w = omega (arith, ints, expanded-neg e xs w, neg-mul t.factor (e t.number w))
 
+-- a sum over terms expands to the sum of the expansions
 pub expanded-over : (e : ℕ → List ℕ → ℤ) (xs : List Term) (f : ℕ → List Term) (w : List ℕ) → expanded e (over_terms xs f) w ≡ expanded (λ c. expanded e (f c)) xs w
 expanded-over e [] f w = refl
 expanded-over e (t ∷ xs) f w =
@@ -39,27 +44,31 @@ expanded-over e (t ∷ xs) f w =
 abbrev pub SameAt : (e d : ℕ → List ℕ → ℤ) → Term → Type 0
 SameAt e d t = (w : List ℕ) → e t.number w ≡ d t.number w
 
+-- expansions agree where the series of their numbers do
 pub expanded-same : (e d : ℕ → List ℕ → ℤ) (xs : List Term) (w : List ℕ) → All (SameAt e d) xs → expanded e xs w ≡ expanded d xs w
 expanded-same e d [] w h = refl
 expanded-same e d (t ∷ xs) w h =
     ap₂ (λ (i j : ℤ). (t.factor *ℤ i) +ℤ j) (All-head (SameAt e d) t xs h w) (expanded-same e d xs w (All-tail (SameAt e d) t xs h))
 
 -- ---- commutators of sums
+-- the commutator of a sum with a series is the sum of the commutators
 pub commutator-expanded_left : (e : ℕ → List ℕ → ℤ) (xs : List Term) (t : List ℕ → ℤ) (w : List ℕ) → commutator (expanded e xs) t w ≡ expanded (λ c. commutator (e c) t) xs w
 commutator-expanded_left e [] t w =
-    commutator-products (λ u. pos 0) t w ∙ ap₂ ◌-ℤ◌ (concatenated-zero_left t w) (concatenated-zero_right t w)
+    commutator-joined (λ u. pos 0) t w ∙ ap₂ ◌-ℤ◌ (joined-zero_left t w) (joined-zero_right t w)
 commutator-expanded_left e (x ∷ xs) t w =
     commutator-next_left x.factor (e x.number) (expanded e xs) t w
     ∙ ap (λ (z : ℤ). (x.factor *ℤ commutator (e x.number) t w) +ℤ z) (commutator-expanded_left e xs t w)
 
+-- and that of a series with a sum
 pub commutator-expanded_right : (e : ℕ → List ℕ → ℤ) (xs : List Term) (t : List ℕ → ℤ) (w : List ℕ) → commutator t (expanded e xs) w ≡ expanded (λ c. commutator t (e c)) xs w
 commutator-expanded_right e [] t w =
-    commutator-products t (λ u. pos 0) w ∙ ap₂ ◌-ℤ◌ (concatenated-zero_right t w) (concatenated-zero_left t w)
+    commutator-joined t (λ u. pos 0) w ∙ ap₂ ◌-ℤ◌ (joined-zero_right t w) (joined-zero_left t w)
 commutator-expanded_right e (x ∷ xs) t w =
     commutator-next_right x.factor (e x.number) (expanded e xs) t w
     ∙ ap (λ (z : ℤ). (x.factor *ℤ commutator t (e x.number) w) +ℤ z) (commutator-expanded_right e xs t w)
 
 -- ---- coefficients
+-- the factor of h in two joined lists
 pub coefficient-append : (h : ℕ) (xs ys : List Term) → coefficient h (xs ++ ys) ≡ coefficient h xs +ℤ coefficient h ys
 coefficient-append h [] ys = omega (arith, ints)
 coefficient-append h (t ∷ xs) ys = omega (arith, ints, coefficient-append h xs ys)
@@ -68,11 +77,13 @@ cond-scaled : (b : Bool) (f : ℤ → ℤ) (k : ℤ) → f (pos 0) ≡ pos 0 →
 cond-scaled true f k none = refl
 cond-scaled false f k none = sym none
 
+-- the factor of h in a multiple
 pub coefficient-mul : (h : ℕ) (k : ℤ) (xs : List Term) → coefficient h (scaled (λ n. k *ℤ n) xs) ≡ k *ℤ coefficient h xs
 coefficient-mul h k [] = sym (*ℤ-zero k)
 coefficient-mul h k (t ∷ xs) =
     ap₂ ◌+ℤ◌ (cond-scaled (eqb t.number h) (λ n. k *ℤ n) t.factor (*ℤ-zero k)) (coefficient-mul h k xs) ∙ sym (mul-add_ℤ k (cond (eqb t.number h) t.factor (pos 0)) (coefficient h xs))
 
+-- the factor of h with all signs changed
 pub coefficient-neg : (h : ℕ) (xs : List Term) → coefficient h (scaled neg_ℤ xs) ≡ neg_ℤ (coefficient h xs)
 coefficient-neg h [] = refl
 coefficient-neg h (t ∷ xs) =
@@ -101,6 +112,7 @@ one-member (suc n) h k g least most =
           ∙ omega (arith, ints)
     ]
 
+-- the sum over all numbers of their factors times g is the sum over the terms
 pub by-coefficients-all : (n : ℕ) (g : ℕ → ℤ) (ts : List Term) → All (λ t. (1 ≤ t.number) × (t.number ≤ n)) ts
     → sum_below n (λ i. coefficient (suc i) ts *ℤ g (suc i)) ≡ expanded (λ h w. g h) ts []
 by-coefficients-all n g [] h = sum_below-zero n (λ i. pos 0 *ℤ g (suc i)) (λ i l. zero-mul_ℤ (g (suc i)))

@@ -1,14 +1,16 @@
 -- Sums of members of a Hall list, and the brackets of members as such sums.
 use Rattle.std.specs.Prelude.{ℕ, zero, suc, ◌+◌, ◌*◌, Bool, true, false, ◌||◌, eqb, ltb, cond, List, [], ◌∷◌, ◌++◌, map, length, ℤ, pos, neg_ℤ, ◌+ℤ◌, ◌*ℤ◌}
-use Rattle.hall_set.specs.Hall.{member, degree, number_of}
-use Rattle.hall_set.specs.declared.member.Member.{Member}
-use Rattle.hall_set.specs.declared.member.Member.TheVariants.{Letter, Pair}
+use Rattle.definitions.specs.Hall.{member, degree, number_of}
+use Rattle.definitions.specs.declared.member.Member.{Member}
+use Rattle.definitions.specs.declared.member.Member.TheVariants.{Letter, Pair}
 use Rattle.lie_bracket.specs.declared.term.Term.{Term}
 
 -- ---- sums: lists of terms, in which a number may stand more than once
+-- k times the member h
 abbrev pub term : ℤ → ℕ → Term
 term k h = record { factor = k; number = h }
 
+-- the same numbers, each factor under f
 abbrev pub scaled : (ℤ → ℤ) → List Term → List Term
 scaled f terms = map (λ t. term (f t.factor) t.number) terms
 
@@ -63,6 +65,7 @@ bracket_within minus depth hall (suc fuel) a b =
 abbrev pub enough : ℕ → List Member → ℕ
 enough depth hall = 2 * (suc depth * suc (length hall))
 
+-- the bracket of the members a and b: by degrees, order and parents as above, with the commutator's signs
 unfoldable pub bracket : ℕ → List Member → ℕ → ℕ → List Term
 bracket depth hall a b = bracket_within neg_ℤ depth hall (enough depth hall) a b
 

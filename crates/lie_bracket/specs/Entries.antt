@@ -4,8 +4,8 @@ use Rattle.std.specs.Option.{unwrap_or}
 use Rattle.std.specs.Ordering.{nat_cmp, ordering_then}
 use Rattle.std.specs.BTreeMap.{BTreeMap, get}
 use Rattle.std.specs.declared.cmp.Ordering.{Ordering}
-use Rattle.hall_set.specs.Hall.{InHall, degree}
-use Rattle.hall_set.specs.declared.member.Member.{Member}
+use Rattle.definitions.specs.Hall.{InHall, degree}
+use Rattle.definitions.specs.declared.member.Member.{Member}
 use Rattle.lie_bracket.specs.declared.term.Term.{Term}
 use Rattle.lie_bracket.specs.declared.sign.Sign.{Sign}
 use Rattle.lie_bracket.specs.declared.sign.Sign.TheVariants.{Minus, Plus}
@@ -20,6 +20,7 @@ pair_cmp p q = ordering_then (nat_cmp p.0 q.0) (nat_cmp p.1 q.1)
 abbrev pub stored : BTreeMap (ℕ × ℕ) (List Term) → ℕ → ℕ → List Term
 stored m a b = unwrap_or (get pair_cmp m (a, b)) []
 
+-- minus or plus the number
 abbrev pub signed : Sign → ℤ → ℤ
 signed Minus k = neg_ℤ k
 signed Plus k = k

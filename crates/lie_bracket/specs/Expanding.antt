@@ -1,8 +1,8 @@
 -- When a sum of members can be expanded without leaving the range of a tensor.
 use Rattle.std.specs.Prelude.{ℕ, suc, ◌+◌, ◌-◌, ◌*◌, ◌^◌, ◌<◌, ◌≤◌, eqb, cond, List, [], ◌∷◌, unsigned_abs}
 use Rattle.definitions.specs.Signature.{limit}
-use Rattle.hall_set.specs.Hall.{degree}
-use Rattle.hall_set.specs.declared.member.Member.{Member}
+use Rattle.definitions.specs.Hall.{degree}
+use Rattle.definitions.specs.declared.member.Member.{Member}
 use Rattle.lie_bracket.specs.declared.term.Term.{Term}
 use Rattle.lie_bracket.specs.declared.fault.ExpandFault.{ExpandFault}
 use Rattle.lie_bracket.specs.declared.fault.ExpandFault.TheVariants.{Level, Memory}
@@ -12,6 +12,7 @@ abbrev pub level_size : List Member → ℕ → List Term → ℕ
 level_size hall k [] = 0
 level_size hall k (t ∷ ts) = cond (eqb (degree hall t.number) k) (unsigned_abs t.factor) 0 + level_size hall k ts
 
+-- no coefficient of k letters leaves the range: those of one member of degree k are at most 2 ^ (k - 1)
 abbrev pub FitsLevel : List Member → List Term → ℕ → Type 0
 FitsLevel hall terms k = level_size hall k terms * 2 ^ (k - 1) ≤ limit
 

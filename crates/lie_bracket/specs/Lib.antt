@@ -3,3 +3,4 @@ pub mod Elements
 pub mod Expanding
 pub mod Entries
 pub mod Tables
+pub mod MoveTerms

@@ -2,8 +2,8 @@
 use Rattle.std.specs.Prelude.{◌≡◌, ℕ, zero, suc, ◌+◌, ◌*◌, ◌<◌, ◌≤◌, ◌^◌, Bool, true, false, ◌&&◌, eqb, ltb, cond, Option, Some, List, [], ◌∷◌, ◌++◌, map, flat_map, filter, find, length, ℤ, pos, negsuc, unsigned_abs}
 use Rattle.definitions.specs.Words.{up_to}
 use Rattle.definitions.specs.Signature.{limit}
-use Rattle.hall_set.specs.Hall.{degree}
-use Rattle.hall_set.specs.declared.member.Member.{Member}
+use Rattle.definitions.specs.Hall.{degree}
+use Rattle.definitions.specs.declared.member.Member.{Member}
 use Rattle.lie_bracket.specs.declared.term.Term.{Term}
 use Rattle.lie_bracket.specs.declared.fault.TableFault.{TableFault}
 use Rattle.lie_bracket.specs.declared.fault.TableFault.TheVariants.{Memory, Pair, Level}
@@ -28,9 +28,11 @@ pairs_in_order depth hall = flat_map (λ sum. flat_map (pairs_at hall sum) (down
 abbrev pub is_heavy : ℕ → List Member → ℕ × ℕ → Bool
 is_heavy depth hall pair = ltb (2 ^ 40) (unsigned_abs (mass (majorant depth hall pair.0 pair.1)))
 
+-- the first pair in the order that is heavy
 unfoldable pub heavy_pair : ℕ → List Member → Option (ℕ × ℕ)
 heavy_pair depth hall = find (is_heavy depth hall) (pairs_in_order depth hall)
 
+-- whether the number is 0
 abbrev pub is_zero : ℤ → Bool
 is_zero (pos zero) = true
 is_zero (pos (suc n)) = false

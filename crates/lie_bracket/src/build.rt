@@ -1,7 +1,7 @@
 //! The entries of a table of brackets, each from earlier ones.
 ghost use Rattle.std.specs.Prelude.{◌≡◌, ◌≤◌, ◌+◌, ◌-◌, ◌*◌, ◌^◌, ℕ, suc, pos, length, EachIndex, IfOk, IsTrue, ◌↔◌, slice_index_or, unsigned_abs};
 ghost use Rattle.definitions.specs.Signature.{limit};
-ghost use Rattle.hall_set.specs.Hall.{hall_list};
+ghost use Rattle.definitions.specs.Hall.{hall_list};
 ghost use Rattle.lie_bracket.specs.Brackets.{coefficient};
 ghost use Rattle.lie_bracket.specs.Entries.{sizes, AreSmall, AreDone, IsPair, bracket_by, entry_of};
 

@@ -1,6 +1,6 @@
 ghost use Rattle.std.specs.Prelude.{◌-◌, pos, length, slice_index_or, unsigned_abs, ◌≡◌, ◌≤◌, ◌<◌, ◌↔◌, All, EachIndex, IsTrue, IfOk, IfErr, MatchOption};
 ghost use Rattle.definitions.specs.Signature.{limit};
-ghost use Rattle.hall_set.specs.Hall.{InHall, hall_list};
+ghost use Rattle.definitions.specs.Hall.{InHall, hall_list};
 ghost use Rattle.lie_bracket.specs.Tables.{nonzero};
 ghost use Rattle.lie_bracket.specs.Elements.{IsGood, IsGoodAt, IsFirstBad, IsElement, IsRefusedBy, top};
 

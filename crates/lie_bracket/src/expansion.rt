@@ -2,7 +2,7 @@ ghost use Rattle.std.specs.Prelude.{◌≡◌, ◌≢◌, ◌≤◌, ◌<◌, �
 ghost use Rattle.definitions.specs.Words.{IsWord};
 ghost use Rattle.definitions.specs.Signature.{limit};
 ghost use Rattle.scaled_tensor.specs.Tensors.{coefficient};
-ghost use Rattle.hall_set.specs.Hall.{InHall, IsHallList, hall_list, degree, expansion};
+ghost use Rattle.definitions.specs.Hall.{InHall, IsHallList, hall_list, degree, expansion};
 ghost use Rattle.lie_bracket.specs.Brackets.{expanded};
 ghost use Rattle.lie_bracket.specs.Expanding.{FitsLevel, FitsBelow, IsExpandFault};
 

@@ -2,7 +2,7 @@
 ghost use Rattle.std.specs.Prelude.{◌≡◌, ◌+◌, ◌≤◌, ℕ, List};
 ghost use Rattle.definitions.specs.Words.{Extent, IsShape};
 ghost use Rattle.definitions.specs.Commutators.{commutator};
-ghost use Rattle.hall_set.specs.Hall.{InHall, hall_list, degree, expansion};
+ghost use Rattle.definitions.specs.Hall.{InHall, hall_list, degree, expansion};
 ghost use Rattle.lie_bracket.specs.Brackets.{bracket, expanded};
 
 /// The bracket of two members of a Hall set whose degrees add up to at most the depth, expanded, is the commutator of their expansions.

@@ -1,7 +1,7 @@
 //! The pairs of members that have an entry in a table of brackets, in the order in which the entries are made.
 ghost use Rattle.std.specs.Prelude.{◌≡◌, ◌+◌, ◌++◌, ◌&&◌, eqb, ltb, flat_map, length, OnOk, IfOk};
 ghost use Rattle.definitions.specs.Words.{IsShape};
-ghost use Rattle.hall_set.specs.Hall.{InHall, hall_list, degree};
+ghost use Rattle.definitions.specs.Hall.{InHall, hall_list, degree};
 ghost use Rattle.lie_bracket.specs.Tables.{down_from, pairs_at, pairs_in_order as listed};
 
 use hall_set::HallSet;

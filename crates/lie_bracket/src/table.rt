@@ -1,7 +1,7 @@
 ghost use Rattle.std.specs.Prelude.{◌≡◌, ◌≤◌, ◌+◌, ◌*◌, ◌^◌, ◌+ℤ◌, ◌↔◌, ℕ, suc, pos, None, All, EachIndex, IsTrue, IfOk, IfErr, length, slice_index_or, unsigned_abs};
 ghost use Rattle.definitions.specs.Words.{IsShape};
 ghost use Rattle.definitions.specs.Signature.{limit};
-ghost use Rattle.hall_set.specs.Hall.{InHall, hall_list};
+ghost use Rattle.definitions.specs.Hall.{InHall, hall_list};
 ghost use Rattle.lie_bracket.specs.Brackets.{coefficient, over_terms, bracket, majorant, bracket_sums};
 ghost use Rattle.lie_bracket.specs.Elements.{top};
 ghost use Rattle.lie_bracket.specs.Entries.{AreSmall, Numbers, sizes, looked_up, AreTables};
@@ -34,7 +34,7 @@ pub struct BracketTable {
 impl Model for BracketTable {
     ghost use Rattle.std.specs.Prelude.{◌≡◌, length};
     ghost use Rattle.definitions.specs.Words.{Extent, IsShape};
-    ghost use Rattle.hall_set.specs.Hall.{hall_list};
+    ghost use Rattle.definitions.specs.Hall.{hall_list};
     ghost use Rattle.lie_bracket.specs.Entries.{AreTables};
 
     ghost Value = { Extent };

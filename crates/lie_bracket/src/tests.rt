@@ -1,5 +1,5 @@
 ghost use Rattle.std.specs.Prelude.{All, IfOk};
-ghost use Rattle.hall_set.specs.Hall.{InHall, hall_list};
+ghost use Rattle.definitions.specs.Hall.{InHall, hall_list};
 
 use crate::{BracketFault, BracketTable, ExpandFault, LieElement, Term, TermsFault, expand};
 use hall_set::HallSet;

@@ -16,22 +16,27 @@ use Rattle.definitions.proofs.SumLaws.{sum_below-add, sum_below-mul, sum_below-s
 use Rattle.shuffle.proofs.ShuffleSums.{add-mul_ℤ, over, over-cons, cut, cut-same, cut-add, cut-sum, over-none_left, over-none_right}
 
 -- ---- the last letter of a word
+-- a word with its last letter apart
 abbrev pub Ends : ℕ → List ℕ → Type 0
 Ends a u = (m : List ℕ) × (b : ℕ) × (a ∷ u ≡ m ++ b ∷ [])
 
+-- each nonempty word has a last letter
 pub ends : (a : ℕ) (u : List ℕ) → Ends a u
 ends a [] = ([], a, refl)
 ends a (b ∷ u) = let rest : Ends b u = ends b u in (a ∷ rest.0, rest.1, ap (λ (w : List ℕ). a ∷ w) rest.2)
 
 -- ---- cuts by the last letter
+-- the sum over the cuts of a word, by its last letter: on the right of the cut, or cut off by nothing
 pub cut-last : (g : List ℕ → List ℕ → ℤ) (m : List ℕ) (b : ℕ) → cut g (m ++ b ∷ []) ≡ cut (λ p q. g p (q ++ b ∷ [])) m +ℤ g (m ++ b ∷ []) []
 cut-last g [] b = refl
 cut-last g (x ∷ m) b = omega (arith, ints, cut-last (λ p q. g (x ∷ p) q) m b)
 
 -- ---- alternating sums of shuffles with a reversed word
+-- what the cut p q of a word adds: f over the shuffles of p and q reversed, times c of the letters in p, with the sign of the letters in q
 abbrev pub folded_cell : (ℕ → ℤ) → (List ℕ → ℤ) → List ℕ → List ℕ → ℤ
 folded_cell c f p q = (sign (length q) *ℤ c (length p)) *ℤ over f p (reverse q)
 
+-- the sum of this over all cuts of a word
 abbrev pub folded : (ℕ → ℤ) → (List ℕ → ℤ) → List ℕ → ℤ
 folded c f w = cut (folded_cell c f) w
 
@@ -41,11 +46,13 @@ reverse-last q b = reverse-append q (b ∷ [])
 length-last : (q : List ℕ) (b : ℕ) → length (q ++ b ∷ []) ≡ suc (length q)
 length-last q b = omega (arith, length-append q (b ∷ []))
 
+-- a sign comes out of a product
 pub neg-mul : (x y : ℤ) → neg_ℤ x *ℤ y ≡ neg_ℤ (x *ℤ y)
 neg-mul x y =
     let none : neg_ℤ x +ℤ x ≡ pos 0 = omega (arith, ints) in
     omega (arith, ints, add-mul_ℤ (neg_ℤ x) x y, ap (λ (z : ℤ). z *ℤ y) none, zero-mul_ℤ y)
 
+-- the cut's term in two, one with the sign of one letter more
 split-cell : (s c x y : ℤ) → (neg_ℤ s *ℤ c) *ℤ (x +ℤ y) ≡ ((neg_ℤ s *ℤ c) *ℤ x) -ℤ ((s *ℤ c) *ℤ y)
 split-cell s c x y =
     mul-add_ℤ (neg_ℤ s *ℤ c) x y ∙ ap (λ (z : ℤ). ((neg_ℤ s *ℤ c) *ℤ x) +ℤ z) (ap (λ (z : ℤ). z *ℤ y) (neg-mul s c) ∙ neg-mul (s *ℤ c) y)
@@ -66,10 +73,12 @@ folded-inner c f a b p q =
     ∙ ap (λ (z : ℤ). z -ℤ ((s *ℤ k) *ℤ over fb (a ∷ p) (reverse q)))
     (sym (ap₂ (λ (n : ℕ) (t : List ℕ). (sign n *ℤ k) *ℤ over fa p t) (length-last q b) (reverse-last q b)))
 
+-- the sum over cuts of a difference
 pub cut-sub : (f g : List ℕ → List ℕ → ℤ) (w : List ℕ) → cut (λ p q. f p q -ℤ g p q) w ≡ cut f w -ℤ cut g w
 cut-sub f g [] = refl
 cut-sub f g (x ∷ w) = omega (arith, ints, cut-sub (λ p q. f (x ∷ p) q) (λ p q. g (x ∷ p) q) w)
 
+-- four terms in another order, two of them under one sign
 regroup : (o i j l : ℤ) → neg_ℤ o +ℤ ((i -ℤ j) +ℤ l) ≡ (i +ℤ l) -ℤ (o +ℤ j)
 regroup o i j l = omega (arith, ints)
 
@@ -95,6 +104,7 @@ folded-step c f a m b =
     ∙ regroup (folded_cell c fb [] (a ∷ m)) (cut (λ p q. folded_cell c' fa p (q ++ b ∷ [])) m) (cut (λ p q. folded_cell c fb (a ∷ p) q) m) (folded_cell c' fa u [])
     ∙ ap (λ (z : ℤ). z -ℤ folded c fb (a ∷ m)) (sym (cut-last (folded_cell c' fa) m b))
 
+-- the folded sum at a word of one letter
 pub folded-one : (c : ℕ → ℤ) (f : List ℕ → ℤ) (a : ℕ) → folded c f (a ∷ []) ≡ (c 1 -ℤ c 0) *ℤ f (a ∷ [])
 folded-one c f a =
     let x : ℤ = f (a ∷ []) in
@@ -119,6 +129,7 @@ by_ends P one step (suc n) f (a ∷ x ∷ u) h =
     subst (λ (v : List ℕ). P f (a ∷ v)) (sym e.2)
     (step f a m b (by_ends P one step n (λ w. f (a ∷ w)) (m ++ b ∷ []) lens) (by_ends P one step n (λ w. f (b ∷ w)) (a ∷ m) (omega (arith, lens, length-last m b))))
 
+-- each count is 1
 abbrev pub ones : ℕ → ℤ
 ones i = pos 1
 
@@ -143,6 +154,7 @@ folded-counted n f w h =
     ∙ folded-add pos ones f w ∙ ap (λ (z : ℤ). folded pos f w +ℤ z) (alternating-none n f w h)
     ∙ omega (arith, ints)
 
+-- with the letters in front as the count, a word is folded by its first letter and its last one
 pub folded_pos-step : (f : List ℕ → ℤ) (a : ℕ) (m : List ℕ) (b : ℕ)
     → folded pos f (a ∷ (m ++ b ∷ [])) ≡ folded pos (λ w. f (a ∷ w)) (m ++ b ∷ []) -ℤ folded pos (λ w. f (b ∷ w)) (a ∷ m)
 folded_pos-step f a m b =
@@ -150,15 +162,18 @@ folded_pos-step f a m b =
     ∙ ap (λ (z : ℤ). z -ℤ folded pos (λ w. f (b ∷ w)) (a ∷ m)) (folded-counted (length m) (λ w. f (a ∷ w)) (m ++ b ∷ []) (length-last m b))
 
 -- ---- commutators by the first letter and the last one of the word
+-- a commutator is a sum over the cuts of the word
 pub commutator-cut : (s t : List ℕ → ℤ) (w : List ℕ) → commutator s t w ≡ cut (λ p q. (s p *ℤ t q) -ℤ (t p *ℤ s q)) w
 unfolding commutator commutator_term
 commutator-cut s t w = cut-sum (λ p q. (s p *ℤ t q) -ℤ (t p *ℤ s q)) w
 
+-- a letter is 0 at words of two letters or more
 pub letter-longer : (a : ℕ) (w : List ℕ) → 2 ≤ length w → letter a w ≡ pos 0
 letter-longer a [] h = absurd (omega arith)
 letter-longer a (b ∷ []) h = absurd (omega arith)
 letter-longer a (b ∷ c ∷ w) h = refl
 
+-- a sum of zeros over cuts is 0
 pub cut-none : (g : List ℕ → List ℕ → ℤ) (w : List ℕ) → ((p q : List ℕ) → g p q ≡ pos 0) → cut g w ≡ pos 0
 cut-none g [] none = none [] []
 cut-none g (x ∷ w) none = ap₂ ◌+ℤ◌ (none [] (x ∷ w)) (cut-none (λ p q. g (x ∷ p) q) w (λ p q. none (x ∷ p) q))
@@ -197,12 +212,14 @@ commutator-letter a t x m y =
     ∙ omega (arith, ints, *ℤ_comm (t (x ∷ m)) (letter a (y ∷ [])))
 
 -- ---- sums over words
+-- sums over words of k letters agree where their terms do
 pub sum_words-same : (width k : ℕ) (f g : List ℕ → ℤ) → ((u : List ℕ) → length u ≡ k → f u ≡ g u) → sum_words width k f ≡ sum_words width k g
 sum_words-same width zero f g same = same [] refl
 sum_words-same width (suc k) f g same =
     sum_below-same width (λ i. sum_words width k (λ u. f (suc i ∷ u))) (λ i. sum_words width k (λ u. g (suc i ∷ u)))
     (λ i h. sum_words-same width k (λ u. f (suc i ∷ u)) (λ u. g (suc i ∷ u)) (λ u e. same (suc i ∷ u) (ap suc e)))
 
+-- the sum of sums over words
 pub sum_words-add : (width k : ℕ) (f g : List ℕ → ℤ) → sum_words width k (λ u. f u +ℤ g u) ≡ sum_words width k f +ℤ sum_words width k g
 sum_words-add width zero f g = refl
 sum_words-add width (suc k) f g =
@@ -210,6 +227,7 @@ sum_words-add width (suc k) f g =
     (λ i h. sum_words-add width k (λ u. f (suc i ∷ u)) (λ u. g (suc i ∷ u)))
     ∙ sum_below-add width (λ i. sum_words width k (λ u. f (suc i ∷ u))) (λ i. sum_words width k (λ u. g (suc i ∷ u)))
 
+-- a factor comes out of a sum over words
 pub sum_words-mul : (width k : ℕ) (c : ℤ) (f : List ℕ → ℤ) → sum_words width k (λ u. c *ℤ f u) ≡ c *ℤ sum_words width k f
 sum_words-mul width zero c f = refl
 sum_words-mul width (suc k) c f =
@@ -220,12 +238,14 @@ sum_words-mul width (suc k) c f =
 neg-as-mul : (x : ℤ) → neg_ℤ x ≡ negsuc 0 *ℤ x
 neg-as-mul x = omega (arith, ints)
 
+-- the difference of sums over words
 pub sum_words-sub : (width k : ℕ) (f g : List ℕ → ℤ) → sum_words width k (λ u. f u -ℤ g u) ≡ sum_words width k f -ℤ sum_words width k g
 sum_words-sub width k f g =
     sum_words-same width k (λ u. f u -ℤ g u) (λ u. f u +ℤ (negsuc 0 *ℤ g u)) (λ u e. ap (λ (z : ℤ). f u +ℤ z) (neg-as-mul (g u)))
     ∙ sum_words-add width k f (λ u. negsuc 0 *ℤ g u)
     ∙ ap (λ (z : ℤ). sum_words width k f +ℤ z) (sum_words-mul width k (negsuc 0) g ∙ sym (neg-as-mul (sum_words width k g)))
 
+-- the difference of finite sums
 pub sum_below-sub : (n : ℕ) (f g : ℕ → ℤ) → sum_below n (λ i. f i -ℤ g i) ≡ sum_below n f -ℤ sum_below n g
 unfolding sum_below
 sum_below-sub zero f g = refl
@@ -259,10 +279,12 @@ dual-cell p l x m y =
     mul-add_ℤ p (l *ℤ x) (neg_ℤ (m *ℤ y))
     ∙ omega (arith, ints, left, right, *ℤ_comm p (neg_ℤ (m *ℤ y)), neg-mul (m *ℤ y) p, *ℤ_comm p (m *ℤ y))
 
+-- a letter before a nonempty word: the commutator of the letter and the rest
 pub right_normed-cons : (c : ℕ) (u w : List ℕ) → 1 ≤ length u → right_normed (c ∷ u) w ≡ commutator (letter c) (right_normed u) w
 right_normed-cons c [] w h = absurd (omega arith)
 right_normed-cons c (b ∷ u) w h = refl
 
+-- the dual at a word of one letter is f there
 pub dual-one : (width : ℕ) (f : List ℕ → ℤ) (a : ℕ) → IsLetter width a → dual width f (a ∷ []) ≡ f (a ∷ [])
 dual-one width f a h =
     sum_below-same width (λ i. f (suc i ∷ []) *ℤ letter (suc i) (a ∷ [])) (λ i. letter (suc i) (a ∷ []) *ℤ f (suc i ∷ [])) (λ i l. *ℤ_comm (f (suc i ∷ [])) (letter (suc i) (a ∷ [])))
@@ -299,6 +321,7 @@ All-back : (width : ℕ) (u v : List ℕ) → All (IsLetter width) (u ++ v) → 
 All-back width [] v h = h
 All-back width (a ∷ u) v h = All-back width u v (All-tail (IsLetter width) a (u ++ v) h)
 
+-- the dual of right-normed commutators is the folded sum, each cut counted by the letters in front
 pub dual-folded : (width n : ℕ) (f : List ℕ → ℤ) (w : List ℕ) → length w ≡ suc n → All (IsLetter width) w → dual width f w ≡ folded pos f w
 dual-folded width n f w len letters =
     by_ends (λ g v. All (IsLetter width) v → dual width g v ≡ folded pos g v)
@@ -332,6 +355,7 @@ All-reversed P (a ∷ u) h =
     All-same P (reverse (a ∷ u)) (reverse u ++ a ∷ []) (reverse-append (a ∷ []) u)
     (All-append P (reverse u) (a ∷ []) (All-reversed P u (All-tail P a u h)) (All-cons P a [] (All-head P a u h) (All-nil P)))
 
+-- where f vanishes on shuffles, a cut with nonempty parts on both sides adds nothing
 folded-cell-none : (width : ℕ) (f : List ℕ → ℤ) (w : List ℕ) → All (IsLetter width) w → VanishesAt width f (length w)
     → (i : ℕ) → i < length w → folded_term pos f w i ≡ pos 0
 unfolding folded_term
@@ -343,6 +367,7 @@ folded-cell-none width f w all none (suc i) h =
     (omega (arith, length-take (suc i) w, length-reverse (drop (suc i) w), length-drop (suc i) w)))
     ∙ *ℤ-zero (sign (length w - suc i) *ℤ pos (suc i))
 
+-- the cut after the last letter adds k times f
 folded-cell-whole : (f : List ℕ → ℤ) (w : List ℕ) → folded_term pos f w (length w) ≡ pos (length w) *ℤ f w
 unfolding folded_term
 folded-cell-whole f w =

@@ -12,14 +12,11 @@ use Rattle.definitions.proofs.WordLaws.{number-lt, place-lt, shorter_part}
 abbrev pub most : ℕ
 most = 5159780352
 
+-- a power of a width with at most nine factors is at most 12 ^ 9
 pub power-fits : (width k : ℕ) → width ≤ 12 → k ≤ 9 → width ^ k ≤ most
 power-fits width k w h =
     let twelve : 12 ^ k ≤ 12 ^ 9 = pow-le-pow_right (lit≤ tt) h in
     omega (arith, pow-le-pow_left w k, twelve)
-
-pub shorter-fits : (width k : ℕ) → width ≤ 12 → k ≤ 9 → shorter width k ≤ k * most
-shorter-fits width zero w h = omega arith
-shorter-fits width (suc k) w h = omega (arith, shorter-fits width k w (omega arith), power-fits width k w (omega arith))
 
 -- the number so far, moved by one place, and one letter more
 pub number-step-fits : (width : ℕ) (word : List ℕ) (n : ℕ) → n ≡ number width word → width ≤ 12 → length word ≤ 8 → All (IsLetter width) word → n * width + width ≤ most
@@ -55,6 +52,7 @@ rest-step width rest at now same some h =
     let e : width ^ at ≡ width ^ now * width = rw (← same) (rw add-one (pow-suc width now)) in
     div_below rest width (width ^ now) some (omega (arith, e, h))
 
+-- what is written stays made of letters, with one letter more in front
 pub letters-step : (width rest at now : ℕ) (letters : List ℕ) → now + 1 ≡ at → 1 ≤ width → now < length letters → All (IsLetter width) (drop at letters) → All (IsLetter width) (drop now (set letters now (rest % width + 1)))
 letters-step width rest at now letters same some here h =
     let front : drop now (set letters now (rest % width + 1)) ≡ (rest % width + 1) ∷ drop at letters = rw (← same) (drop-set letters now (rest % width + 1) here) in
@@ -62,6 +60,7 @@ letters-step width rest at now letters same some here h =
     let letter : IsLetter width (rest % width + 1) = (omega arith, omega arith) in
     rw front (All-cons (IsLetter width) (rest % width + 1) (drop at letters) letter h)
 
+-- once all places are written, the letters spell the word of the number
 pub all-written : (width rest at index : ℕ) (letters : List ℕ) → at ≤ 0 → rest < width ^ at
     → rest * width ^ (length letters - at) + number width (drop at letters) ≡ index → number width letters ≡ index
 all-written width rest zero index letters done h e =

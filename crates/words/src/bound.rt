@@ -22,6 +22,7 @@ impl Model for Bound {
     ghost invariant = { λ b. IsBound b.count b.factors };
 }
 
+/// The greatest absolute value of a coefficient: 2^127 - 1.
 const LIMIT: u128 = i128::MAX as u128;
 
 /// The next power of the weight, where that times the factor is at most the limit.

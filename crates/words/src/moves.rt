@@ -1,63 +1,53 @@
-ghost use Rattle.std.specs.Prelude.{◌≡◌, ◌≢◌, ◌-◌, ◌≤◌, ◌^◌, List, [], ◌∷◌, length, slice_index_or, IfOk, IfSome, IfNone, ℤ};
-ghost use Rattle.definitions.specs.Moves.{IsMove, first_part, greatest, move_weight};
+ghost use Rattle.std.specs.Prelude.{◌≡◌, ◌-◌, ◌≤◌, ◌^◌, ◌↔◌, All, [], length, slice_index_or, IfOk, IfSome, IfNone, IsTrue};
+ghost use Rattle.definitions.specs.Moves.{IsMove, IsPlain, AreParts, padded, total, sizes_of, move_weight};
 
 use crate::entries::Entries;
 use crate::memory::Memory;
+use crate::parts::MoveParts;
 use crate::shape::Shape;
 use std::alloc::Global;
 use std::marker::Model;
 
 /// What a row adds to the stream, seen as its parts of degree 1 to N: as many as the shape is deep.
-/// Only the first part has entries, one for each letter of the shape.
+/// The first part has an entry for each letter of the shape; the entries of part j are Hall coordinates of degree j.
+/// Parts that were not given are empty. The weight is worked out once, when the move is made.
 #[derive(Drop)]
 pub struct Move {
-    shape: Shape,
-    entries: Entries,
+    parts: MoveParts,
+    weight: u128,
 }
 
 impl Model for Move {
-    ghost use Rattle.std.specs.Prelude.{◌≡◌, length};
-    ghost use Rattle.definitions.specs.Words.{IsShape};
-    ghost use Rattle.definitions.specs.Moves.{Parts, plain};
+    ghost use Rattle.std.specs.Prelude.{◌≡◌, ◌≤◌, ◌^◌};
+    ghost use Rattle.definitions.specs.Moves.{Parts, move_weight};
 
     ghost Value = { Parts };
 
-    ghost view = { λ m. plain m.shape.depth m.entries };
+    ghost view = { λ m. m.parts };
 
-    ghost invariant = { λ m. length m.entries ≡ m.shape.width };
-}
-
-/// The greatest absolute value of an entry, 0 where there is none.
-pub fn greatest_entry(entries: &[i64]) -> u128
-    ensures value { result ≡ greatest entries.now }
-    ensures bound { result ≤ 2 ^ 63 }
-{
-    let mut weight: u128 = 0;
-    for entry in entries {
-        weight = weight.max(entry.unsigned_abs() as u128);
-    }
-    weight
+    ghost invariant = { λ m. record {
+      value : m.weight ≡ move_weight m.parts;
+      bound : m.weight ≤ 2 ^ 64;
+    } };
 }
 
 impl Move {
-    /// The move of these parts, or `None` exactly where there isn't just one part or it hasn't an entry for each letter.
-    /// Takes no memory; parts that are refused are dropped.
-    pub fn of(shape: Shape, mut parts: Vec<Entries>) -> Option<Move>
-        ensures given { IfSome result (λ m. IsMove shape m × (parts.items ≡ first_part m ∷ [])) }
-        ensures refused { IfNone result ((entries : List ℤ) → parts.items ≡ entries ∷ [] → length entries ≢ shape.width) }
+    /// The move of these parts, or `None` exactly where there are none or more than the shape is deep, the first hasn't an entry for
+    /// each letter, or some part has 2^32 entries or more. Takes no memory; parts that are refused are dropped.
+    pub fn of(shape: Shape, parts: Vec<Entries>) -> Option<Move>
+        ensures given { IfSome result (λ m. IsMove shape m × (m ≡ padded shape.depth parts.items)) }
+        ensures refused { IfNone result (AreParts shape parts.items → ⊥) }
     {
-        let entries = parts.pop()?;
-        if !parts.is_empty() || entries.list().len() != shape.width() as usize {
-            return None;
-        }
-        Some(Move { shape, entries })
+        let parts = MoveParts::of(shape, parts)?;
+        let weight = parts.weight();
+        Some(Move { parts, weight })
     }
 
     /// The shape, whose depth is the number of parts.
     pub fn shape(&self) -> Shape
         ensures { IsMove result self.now }
     {
-        self.shape
+        self.parts.shape()
     }
 
     /// The entries of the part of degree k, from 1.
@@ -66,15 +56,34 @@ impl Move {
         requires within { k ≤ length self.now }
         ensures { result.now ≡ slice_index_or self.now (k - 1) [] }
     {
-        if k == 1 { self.entries.list() } else { &[] }
+        self.parts.part(k)
+    }
+
+    /// Whether no part after the first has an entry other than 0.
+    pub fn plain(&self) -> bool
+        ensures { IsTrue result ↔ IsPlain self.now }
+    {
+        self.parts.plain()
+    }
+
+    /// Bounds of the coefficients of the move's Lie element, by degree: the greatest absolute entry of
+    /// part 1, and for the part of degree j its sum of absolute entries times 2^(j-1).
+    pub fn write_sizes(&self, sizes: &mut [u128])
+        requires { length sizes.old ≡ length self.now }
+        ensures value { sizes.new ≡ sizes_of self.now }
+        ensures first { slice_index_or sizes.new 0 0 ≤ 2 ^ 63 }
+        ensures small { All (λ p. p ≤ 2 ^ 102) sizes.new }
+        ensures totals { All (λ part. total part ≤ 2 ^ 95) self.now }
+    {
+        self.parts.write_sizes(sizes);
     }
 
     /// A bound on the move's step: its coefficient at k letters is at most the k-th power of this.
     pub fn weight(&self) -> u128
         ensures value { result ≡ move_weight self.now }
-        ensures bound { result ≤ 2 ^ 63 }
+        ensures bound { result ≤ 2 ^ 64 }
     {
-        greatest_entry(self.entries.list())
+        self.weight
     }
 
     /// An equal move.
@@ -82,8 +91,8 @@ impl Move {
         ensures { IfOk result (λ m. m ≡ self.now) }
     {
         Ok(Move {
-            shape: self.shape,
-            entries: self.entries.copy(alloc)?,
+            parts: self.parts.copy(alloc)?,
+            weight: self.weight,
         })
     }
 }

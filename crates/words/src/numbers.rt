@@ -2,6 +2,7 @@ ghost use Rattle.std.specs.Prelude.{◌≡◌, ◌≤◌, ◌*◌};
 ghost use Rattle.definitions.specs.Words.{binom as binomial, factorial as product_to};
 ghost use Rattle.definitions.specs.Logarithm.{lcm_to as least_multiple, log_bound as bound_factor};
 
+/// The binomials of n over k in row n and column k, for both up to 8.
 const BINOMIALS: [[u64; 9]; 9] = [
     [1, 0, 0, 0, 0, 0, 0, 0, 0],
     [1, 1, 0, 0, 0, 0, 0, 0, 0],
@@ -14,10 +15,13 @@ const BINOMIALS: [[u64; 9]; 9] = [
     [1, 8, 28, 56, 70, 56, 28, 8, 1],
 ];
 
+/// The factorials of 0 to 8.
 const FACTORIALS: [u64; 9] = [1, 1, 2, 6, 24, 120, 720, 5040, 40320];
 
+/// The least common multiples of 1 .. k, for k from 0 to 8.
 const LEAST_MULTIPLES: [u64; 9] = [1, 1, 2, 6, 12, 60, 60, 420, 840];
 
+/// The bounds of the logarithm of a signature at words of 0 to 8 letters, for the weight 1.
 const LOG_BOUNDS: [u64; 9] = [0, 1, 4, 36, 312, 9000, 64920, 3933720, 79452240];
 
 /// The binomial by Pascal's rule.

@@ -6,7 +6,7 @@ use std::marker::Model;
 
 /// Which words there are: the letters are 1 .. width, a word has at most `depth` letters.
 /// The width is from 1 to 12 and the depth from 1 to 8, with at most 2,000 words.
-#[derive(Clone, Copy, Drop)]
+#[derive(Debug, Clone, Copy, PartialEq, Eq, Drop)]
 pub struct Shape {
     width: u32,
     depth: u32,
@@ -36,19 +36,36 @@ pub enum ShapeFault {
     Words(u64),
 }
 
+/// How many words over up to 12 letters have fewer than 0 to 9 letters: a row for each width.
+const SHORTER: [[u64; 10]; 13] = [
+    [0, 1, 1, 1, 1, 1, 1, 1, 1, 1],
+    [0, 1, 2, 3, 4, 5, 6, 7, 8, 9],
+    [0, 1, 3, 7, 15, 31, 63, 127, 255, 511],
+    [0, 1, 4, 13, 40, 121, 364, 1093, 3280, 9841],
+    [0, 1, 5, 21, 85, 341, 1365, 5461, 21845, 87381],
+    [0, 1, 6, 31, 156, 781, 3906, 19531, 97656, 488281],
+    [0, 1, 7, 43, 259, 1555, 9331, 55987, 335923, 2015539],
+    [0, 1, 8, 57, 400, 2801, 19608, 137257, 960800, 6725601],
+    [0, 1, 9, 73, 585, 4681, 37449, 299593, 2396745, 19173961],
+    [0, 1, 10, 91, 820, 7381, 66430, 597871, 5380840, 48427561],
+    [
+        0, 1, 11, 111, 1111, 11111, 111111, 1111111, 11111111, 111111111,
+    ],
+    [
+        0, 1, 12, 133, 1464, 16105, 177156, 1948717, 21435888, 235794769,
+    ],
+    [
+        0, 1, 13, 157, 1885, 22621, 271453, 3257437, 39089245, 469070941,
+    ],
+];
+
 /// How many words have fewer than `length` letters.
 fn count_shorter(width: u32, length: u32) -> u64
     requires width { width ≤ 12 }
     requires length { length ≤ 9 }
     ensures { result ≡ shorter width length }
 {
-    let mut total: u64 = 0;
-    let mut level: u64 = 1;
-    for _i in 0..length {
-        total += level;
-        level *= width as u64;
-    }
-    total
+    SHORTER[width as usize][length as usize]
 }
 
 /// The number of a word among those of its length, in lexicographic order from 0.

@@ -6,7 +6,7 @@ use std::sync::ledger::{Blank, Book, Ledger, Share};
 /// The ledger of a program whose count nobody reads.
 pub type Free = Brand;
 
-/// How many step units were taken. It takes no bytes, and only `tick` changes it.
+/// How many units were taken. It takes no bytes, and only `tick` changes it.
 #[derive(Drop)]
 pub struct Steps<L: Ledger> {
     book: Book<L>,
@@ -35,6 +35,7 @@ impl<L: Ledger> Steps<L> {
         Steps { book, share }
     }
 
+    /// One unit more.
     pub fn tick(&mut self)
         ensures { self.new ≡ self.old + 1 }
     {

@@ -1,6 +1,7 @@
 use crate::{
     Bound, Entries, Move, Shape, ShapeFault, lcm_to, lie_den, log_bound, log_den, sig_den,
 };
+use std::alloc::Global;
 use std::test::Fail;
 
 #[test]
@@ -34,15 +35,51 @@ fn shapes_that_are_refused(rt: HostRuntime) {
     }
 }
 
+/// The move of the shape with these parts, or `None` where they are refused.
+fn move_of(alloc: Global, shape: Shape, given: &[&[i64]]) -> Result<Option<Move>, Fail> {
+    let mut parts = Vec::new(alloc);
+    for part in given {
+        parts.push(Entries::of(Vec::from_slice(alloc, part)?))?;
+    }
+    Ok(Move::of(shape, parts))
+}
+
 #[test]
-fn moves_of_one_part(rt: HostRuntime) -> Result<(), Fail> {
+fn parts_of_moves(rt: HostRuntime) -> Result<(), Fail> {
+    let alloc = rt.alloc();
     let shape = Shape::new(2, 2)?;
-    let mut parts = Vec::new(rt.alloc());
-    assert!(rt; Move::of(shape, Vec::new(rt.alloc())).is_none());
-    parts.push(Entries::of(Vec::from_slice(rt.alloc(), &[2, -3])?))?;
-    let x = Move::of(shape, parts).ok_or("refused")?;
-    assert_eq!(rt; x.weight(), 3);
-    assert_eq!(rt; x.copy(rt.alloc())?.weight(), 3);
+    for refused in [
+        [].as_slice(),
+        [[2].as_slice()].as_slice(),
+        [[2, -3].as_slice(), [1].as_slice(), [].as_slice()].as_slice(),
+    ] {
+        assert!(rt; move_of(alloc, shape, refused)?.is_none());
+    }
+    let straight = move_of(alloc, shape, &[&[2, -3]])?.ok_or("refused")?;
+    assert!(rt; straight.plain());
+    assert_eq!(rt; straight.weight(), 3);
+    let turning = move_of(alloc, shape, &[&[2, -3], &[5]])?.ok_or("refused")?;
+    assert!(rt; !turning.plain());
+    let copy = turning.copy(alloc)?;
+    if copy.shape().depth() == 2 {
+        assert_eq!(rt; copy.part(1), [2, -3].as_slice());
+        assert_eq!(rt; copy.part(2), [5].as_slice());
+    }
+    assert_eq!(rt; copy.weight(), turning.weight());
+    Ok(())
+}
+
+#[test]
+fn weights_of_brackets(rt: HostRuntime) -> Result<(), Fail> {
+    for (depth, entry, weight) in [
+        (2, 1, 2),
+        (8, 225_720_576, 60096),
+        (8, 225_720_577, 60097),
+        (8, -225_720_576, 60096),
+    ] {
+        let x = move_of(rt.alloc(), Shape::new(2, depth)?, &[&[0, 0], &[entry]])?;
+        assert_eq!(rt; x.ok_or("refused")?.weight(), weight);
+    }
     Ok(())
 }
 

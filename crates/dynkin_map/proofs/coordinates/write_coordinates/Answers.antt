@@ -1,7 +1,7 @@
 use Rattle.std.proofs.Common.{◌≡◌, ◌+◌, ◌∙◌, ℕ, [], suc, pos, sym, ap, subst, arith, add-one, length, unsigned_abs}
 use Rattle.std.specs.Prelude.{slice_index_or}
 use Rattle.definitions.specs.Words.{Extent, IsShape, shorter}
-use Rattle.hall_set.specs.Hall.{InHall}
+use Rattle.definitions.specs.Hall.{InHall}
 use Rattle.scaled_tensor.specs.Tensors.{TensorValue}
 use Rattle.scaled_tensor.specs.Tensors.{coefficient as at_word}
 use Rattle.scaled_tensor.specs.LogTensors.{LogTensorValue, IsLogTensor}

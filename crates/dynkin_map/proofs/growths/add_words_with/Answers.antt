@@ -1,6 +1,6 @@
 use Rattle.std.proofs.Common.{◌≤◌, ◌∙◌, ℤ, List, pos, suc, ap, sym, subst, arith, length, ◌+ℤ◌}
 use Rattle.std.specs.Prelude.{slice_index_or, All}
-use Rattle.hall_set.specs.Hall.{InHall}
+use Rattle.definitions.specs.Hall.{InHall}
 use Rattle.lie_bracket.specs.declared.term.Term.{Term}
 use Rattle.lie_bracket.specs.Brackets.{coefficient, over_terms}
 use Rattle.lie_bracket.proofs.NonzeroLaws.{nonzero-Numbers}

@@ -1,6 +1,6 @@
 use Rattle.std.proofs.Common.{◌≡◌, ◌≤◌, ◌-◌, ◌^◌, ℕ, length}
 use Rattle.std.specs.Prelude.{slice_index_or}
-use Rattle.hall_set.specs.Hall.{hall_list}
+use Rattle.definitions.specs.Hall.{hall_list}
 use Rattle.lie_bracket.specs.Entries.{sizes}
 use Rattle.lie_bracket.specs.Tables.{nonzero}
 use Rattle.dynkin_map.specs.Table.{growth_of, majorant_sum}

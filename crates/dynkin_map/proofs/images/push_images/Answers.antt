@@ -3,7 +3,7 @@ use Rattle.std.specs.Prelude.{All}
 use Rattle.std.proofs.lemmas.List.{get_or_append_left, take_all}
 use Rattle.definitions.specs.Words.{Extent, words_of}
 use Rattle.definitions.proofs.WordLists.{IsNumbered, word-numbered, length-words_of}
-use Rattle.hall_set.specs.Hall.{InHall}
+use Rattle.definitions.specs.Hall.{InHall}
 use Rattle.lie_bracket.specs.declared.term.Term.{Term}
 use Rattle.lie_bracket.specs.Entries.{sizes}
 use Rattle.dynkin_map.specs.Table.{row_of}

@@ -1,5 +1,5 @@
 use Rattle.std.proofs.Common.{◌≡◌, ◌≤◌, ◌-◌, ap, ◌∙◌, arith, length}
-use Rattle.hall_set.specs.Hall.{grown}
+use Rattle.definitions.specs.Hall.{grown}
 use Rattle.hall_set.proofs.GrowthSteps.{grown-short, grown-more}
 use Rattle.hall_set.proofs.growth.grow.Goals as goal
 

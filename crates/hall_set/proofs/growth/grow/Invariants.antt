@@ -1,6 +1,6 @@
 use Rattle.std.proofs.Common.{◌≡◌, ◌-◌, replicate}
-use Rattle.hall_set.specs.Hall.{grown}
-use Rattle.hall_set.specs.declared.member.Member.TheVariants.{Letter}
+use Rattle.definitions.specs.Hall.{grown}
+use Rattle.definitions.specs.declared.member.Member.TheVariants.{Letter}
 use Rattle.hall_set.proofs.growth.grow.Given as goal
 
 abbrev pub invariant-loop-letter : goal.invariant-loop-letter

@@ -1,7 +1,7 @@
 use Rattle.std.proofs.Common.{◌≡◌}
 use Rattle.std.specs.Prelude.{flat_map}
 use Rattle.definitions.specs.Words.{up_to}
-use Rattle.hall_set.specs.Hall.{pairs_from}
+use Rattle.definitions.specs.Hall.{pairs_from}
 use Rattle.hall_set.proofs.growth.pairs_of_degree.Given as goal
 
 abbrev pub invariant-loop-before : goal.invariant-loop-before

@@ -1,5 +1,5 @@
 use Rattle.std.proofs.Common.{◌≡◌, ◌≤◌, ◌<◌, ◌+◌, ◌∙◌, ap, ap₂, sym, arith, length}
-use Rattle.hall_set.specs.Hall.{degree, degree_of}
+use Rattle.definitions.specs.Hall.{degree, degree_of}
 use Rattle.hall_set.proofs.Searches.{list-IsHall, list-short, list-degree, number-at_place, no-number-at_place, no-number-past, no-number-left, no-number-right}
 use Rattle.hall_set.proofs.search.find_pair.Goals as goal
 

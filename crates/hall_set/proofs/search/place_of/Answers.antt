@@ -1,6 +1,6 @@
 use Rattle.std.proofs.Common.{rules}
 use Rattle.std.proofs.lemmas.List.Sorted.{IsPartitionPoint-from_clause}
-use Rattle.hall_set.specs.Order.{precedes}
+use Rattle.definitions.specs.Order.{precedes}
 use Rattle.hall_set.proofs.Searches.{list-IsHall, precedes-partitions}
 use Rattle.hall_set.proofs.search.place_of.Goals as goal
 

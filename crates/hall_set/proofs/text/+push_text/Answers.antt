@@ -1,7 +1,7 @@
 use Rattle.std.proofs.Common.{◌++◌, ◌∙◌, ap, sym, arith}
 use Rattle.std.specs.Prelude.{string_bytes}
-use Rattle.hall_set.specs.Hall.{text_of}
-use Rattle.hall_set.specs.declared.member.Member.TheVariants.{Letter, Pair}
+use Rattle.definitions.specs.Hall.{text_of}
+use Rattle.definitions.specs.declared.member.Member.TheVariants.{Letter, Pair}
 use Rattle.hall_set.proofs.GrownLists.{IsPairOf, member-read}
 use Rattle.hall_set.proofs.Folds.{text_of-letter, text_of-pair, text-joined}
 use Rattle.hall_set.proofs.Searches.{list-IsHall}

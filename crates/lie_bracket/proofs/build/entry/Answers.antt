@@ -1,7 +1,7 @@
 use Rattle.std.proofs.Common.{◌≡◌, ◌-◌, ◌∙◌, ap, subst, arith, ℤ, List, pos, length}
 use Rattle.std.specs.Prelude.{slice_index_or, IfOk}
 use Rattle.std.proofs.lemmas.List.{take_at}
-use Rattle.hall_set.specs.Hall.{hall_list}
+use Rattle.definitions.specs.Hall.{hall_list}
 use Rattle.lie_bracket.specs.Tables.{nonzero}
 use Rattle.lie_bracket.specs.Entries.{entry_of, bracket_by}
 use Rattle.lie_bracket.proofs.TableSteps.{sums-list}

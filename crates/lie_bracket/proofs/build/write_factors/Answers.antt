@@ -1,7 +1,7 @@
 use Rattle.std.proofs.Common.{◌≡◌, ◌<◌, ◌∙◌, sym, subst, arith, rules, ℕ, ℤ, pos, suc, length, length-set, ◌+ℤ◌, ◌*ℤ◌, FitsSigned, to_z-of_z}
 use Rattle.std.specs.Prelude.{slice_index_or}
 use mir.Syntax.{w128}
-use Rattle.hall_set.specs.Hall.{hall_list, degree}
+use Rattle.definitions.specs.Hall.{hall_list, degree}
 use Rattle.lie_bracket.specs.Brackets.{coefficient, over_terms}
 use Rattle.lie_bracket.specs.Entries.{AreSmall, looked_up}
 use Rattle.lie_bracket.proofs.TableSteps.{pair-IsHall, IsSplit, first-side, second-room, both-sides, found-value, split-factors, no-letter}

@@ -1,7 +1,7 @@
 use Rattle.std.proofs.Common.{◌≡◌, ◌∙◌, ap, sym, subst, arith, [], refl}
 use Rattle.std.proofs.lemmas.List.{nil_from_length}
 use Rattle.definitions.specs.Words.{Extent, IsWord}
-use Rattle.hall_set.specs.Hall.{hall_list, expansion}
+use Rattle.definitions.specs.Hall.{hall_list, expansion}
 use Rattle.lie_bracket.specs.Brackets.{expanded}
 use Rattle.lie_bracket.proofs.ExpandSteps.{expanded-empty}
 use Rattle.lie_bracket.proofs.expansion.expand.Goals as goal

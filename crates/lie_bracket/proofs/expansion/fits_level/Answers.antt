@@ -2,7 +2,7 @@ use Rattle.std.proofs.Common.{◌≡◌, ◌∙◌, ◌+◌, ◌-◌, ◌/◌, �
 use mir.Syntax.{w128}
 use Rattle.std.proofs.lemmas.List.{take_all}
 use Rattle.std.proofs.lemmas.List.Elements.{All-get_or}
-use Rattle.hall_set.specs.Hall.{InHall, degree}
+use Rattle.definitions.specs.Hall.{InHall, degree}
 use Rattle.lie_bracket.specs.Brackets.{term}
 use Rattle.lie_bracket.specs.Elements.{term_at}
 use Rattle.lie_bracket.specs.Expanding.{level_size}

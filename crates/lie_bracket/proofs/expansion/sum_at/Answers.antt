@@ -3,7 +3,7 @@ use mir.Syntax.{w128}
 use mir.Val.{to_z}
 use Rattle.std.proofs.lemmas.List.Elements.{All-get_or}
 use Rattle.definitions.specs.Signature.{limit}
-use Rattle.hall_set.specs.Hall.{InHall, degree}
+use Rattle.definitions.specs.Hall.{InHall, degree}
 use Rattle.lie_bracket.specs.Brackets.{term}
 use Rattle.lie_bracket.specs.Elements.{term_at}
 use Rattle.lie_bracket.proofs.ExpandSteps.{degree-read, sum-bound, term-bound, sum-take, sum-pass}

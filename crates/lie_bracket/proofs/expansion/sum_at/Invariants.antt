@@ -1,5 +1,5 @@
 use Rattle.std.proofs.Common.{◌≡◌, take}
-use Rattle.hall_set.specs.Hall.{expansion}
+use Rattle.definitions.specs.Hall.{expansion}
 use Rattle.lie_bracket.specs.Brackets.{expanded}
 use Rattle.lie_bracket.proofs.expansion.sum_at.Given as goal
 

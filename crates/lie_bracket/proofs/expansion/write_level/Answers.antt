@@ -3,7 +3,7 @@ use mir.Syntax.{w128}
 use Rattle.std.proofs.lemmas.List.{length-take}
 use Rattle.definitions.specs.Words.{Extent, IsWord, number}
 use Rattle.scaled_tensor.specs.Tensors.{coefficient}
-use Rattle.hall_set.specs.Hall.{hall_list, expansion}
+use Rattle.definitions.specs.Hall.{hall_list, expansion}
 use Rattle.lie_bracket.specs.Brackets.{expanded}
 use Rattle.lie_bracket.proofs.LevelSteps.{IsWritten, written-next, within-count}
 use Rattle.lie_bracket.proofs.expansion.write_level.Goals as goal

@@ -1,7 +1,7 @@
 use Rattle.std.proofs.Common.{◌≡◌, ◌≢◌, ◌<◌, ℕ, List, length}
 use Rattle.definitions.specs.Words.{IsWord, number}
 use Rattle.scaled_tensor.specs.Tensors.{coefficient}
-use Rattle.hall_set.specs.Hall.{hall_list, expansion}
+use Rattle.definitions.specs.Hall.{hall_list, expansion}
 use Rattle.lie_bracket.specs.Brackets.{expanded}
 use Rattle.lie_bracket.proofs.expansion.write_level.Given as goal
 

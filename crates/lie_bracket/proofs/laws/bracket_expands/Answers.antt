@@ -1,6 +1,6 @@
 use Rattle.std.proofs.Common.{List}
-use Rattle.hall_set.specs.Hall.{hall_list, expansion}
-use Rattle.hall_set.specs.declared.member.Member.{Member}
+use Rattle.definitions.specs.Hall.{hall_list, expansion}
+use Rattle.definitions.specs.declared.member.Member.{Member}
 use Rattle.hall_set.proofs.GrownLists.{IsHall, hall_list-IsHall}
 use Rattle.lie_bracket.proofs.Expansions.{expansion-Expansions}
 use Rattle.lie_bracket.proofs.BracketExpansion.{bracket-expands}

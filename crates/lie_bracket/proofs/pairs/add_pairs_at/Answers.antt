@@ -1,4 +1,4 @@
-use Rattle.hall_set.specs.Hall.{hall_list}
+use Rattle.definitions.specs.Hall.{hall_list}
 use Rattle.lie_bracket.specs.Tables.{pairs_at}
 use Rattle.lie_bracket.proofs.PairOrder.{down-more}
 use Rattle.lie_bracket.proofs.pairs.add_pairs_at.Goals as goal

@@ -1,6 +1,6 @@
 use Rattle.std.proofs.Common.{◌≡◌, ◌-◌, ◌++◌}
 use Rattle.std.specs.Prelude.{flat_map}
-use Rattle.hall_set.specs.Hall.{hall_list}
+use Rattle.definitions.specs.Hall.{hall_list}
 use Rattle.lie_bracket.specs.Tables.{pairs_at, down_from}
 use Rattle.lie_bracket.proofs.pairs.add_pairs_at.Given as goal
 

@@ -1,5 +1,5 @@
 use Rattle.std.proofs.Common.{ap, ◌∙◌}
-use Rattle.hall_set.specs.Hall.{hall_list}
+use Rattle.definitions.specs.Hall.{hall_list}
 use Rattle.lie_bracket.proofs.PairOrder.{pair-kept, pair-passed}
 use Rattle.lie_bracket.proofs.pairs.add_pairs_of.Goals as goal
 use Rattle.lie_bracket.proofs.pairs.add_pairs_of.Goals.{then-is_pair_of+in_ok-push, else-is_pair_of}

@@ -1,5 +1,5 @@
 use Rattle.std.proofs.Common.{◌≡◌, ◌++◌}
-use Rattle.hall_set.specs.Hall.{hall_list}
+use Rattle.definitions.specs.Hall.{hall_list}
 use Rattle.lie_bracket.proofs.PairOrder.{pairs_below}
 use Rattle.lie_bracket.proofs.pairs.add_pairs_of.Given as goal
 

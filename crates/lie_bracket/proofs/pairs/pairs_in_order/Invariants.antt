@@ -1,7 +1,7 @@
 use Rattle.std.proofs.Common.{◌≡◌, length}
 use Rattle.std.specs.Prelude.{flat_map}
 use Rattle.definitions.specs.Words.{up_to}
-use Rattle.hall_set.specs.Hall.{hall_list}
+use Rattle.definitions.specs.Hall.{hall_list}
 use Rattle.lie_bracket.specs.Tables.{pairs_at, down_from}
 use Rattle.lie_bracket.proofs.pairs.pairs_in_order.Given as goal
 

@@ -1,8 +1,8 @@
 use Rattle.std.proofs.Common.{refl, inl, inr, ◌≡◌, ◌≤◌, ◌<◌, ◌^◌, ◌∙◌, ap, sym, subst, arith, ℕ, List, length}
 use Rattle.std.specs.Prelude.{true, false, Some}
 use Rattle.std.proofs.lemmas.Bool.{cases_eq, false≢true}
-use Rattle.hall_set.specs.Hall.{hall_list}
-use Rattle.hall_set.specs.declared.member.Member.{Member}
+use Rattle.definitions.specs.Hall.{hall_list}
+use Rattle.definitions.specs.declared.member.Member.{Member}
 use Rattle.hall_set.proofs.GrownLists.{IsHall, hall_list-IsHall}
 use Rattle.lie_bracket.specs.declared.sign.Sign.TheVariants.{Minus, Plus}
 use Rattle.lie_bracket.specs.Tables.{pairs_in_order, is_heavy}

@@ -1,4 +1,4 @@
-use Rattle.hall_set.specs.Hall.{hall_list}
+use Rattle.definitions.specs.Hall.{hall_list}
 use Rattle.lie_bracket.proofs.TableLoop.{IsBuilt}
 use Rattle.lie_bracket.proofs.table.build_entries.Given as goal
 

@@ -1,6 +1,6 @@
 use Rattle.std.proofs.Common.{◌∙◌, List, ap, length}
 use Rattle.definitions.specs.Words.{Extent}
-use Rattle.hall_set.specs.Hall.{hall_list, expansion}
+use Rattle.definitions.specs.Hall.{hall_list, expansion}
 use Rattle.scaled_tensor.specs.Tensors.{coefficient}
 use Rattle.lie_bracket.specs.declared.term.Term.{Term}
 use Rattle.lie_bracket.specs.Brackets.{expanded}

@@ -1,6 +1,6 @@
 use Rattle.std.proofs.Common.{◌∙◌, ap, subst, arith}
 use Rattle.definitions.specs.Words.{IsShape}
-use Rattle.hall_set.specs.Hall.{hall_list}
+use Rattle.definitions.specs.Hall.{hall_list}
 use Rattle.hall_set.proofs.Searches.{degree-within}
 use Rattle.hall_set.proofs.set.HallSet.degree.Goals as goal
 

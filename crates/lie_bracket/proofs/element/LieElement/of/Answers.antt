@@ -1,6 +1,6 @@
 use Rattle.std.proofs.Common.{subst, List, ℕ, length}
 use Rattle.std.specs.Prelude.{EachIndex}
-use Rattle.hall_set.specs.Hall.{hall_list}
+use Rattle.definitions.specs.Hall.{hall_list}
 use Rattle.lie_bracket.specs.declared.term.Term.{Term}
 use Rattle.lie_bracket.specs.Elements.{IsGoodAt, IsElement}
 use Rattle.lie_bracket.proofs.ElementLaws.{good-IsElement, good-members}

@@ -1,8 +1,8 @@
 use Rattle.std.proofs.Common.{◌∙◌, ap, sym, subst, arith, ℕ, ℤ, List, pos, suc, ◌+ℤ◌}
 use Rattle.std.specs.Prelude.{slice_index_or}
 use Rattle.definitions.specs.Words.{Extent, IsShape}
-use Rattle.hall_set.specs.Hall.{hall_list}
-use Rattle.hall_set.specs.declared.member.Member.{Member}
+use Rattle.definitions.specs.Hall.{hall_list}
+use Rattle.definitions.specs.declared.member.Member.{Member}
 use Rattle.hall_set.proofs.GrownLists.{IsHall, hall_list-IsHall}
 use Rattle.lie_bracket.specs.declared.sign.Sign.TheVariants.{Plus}
 use Rattle.lie_bracket.specs.Entries.{AreSmall, IsTable}
