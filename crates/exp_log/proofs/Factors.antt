@@ -1,17 +1,14 @@
 -- The numbers in the logarithm's sum and in its bound.
 use Rattle.std.proofs.Common.{◌≡◌, ℕ, zero, suc, ◌+◌, ◌*◌, ◌-◌, ◌/◌, ◌%◌, ◌≤◌, ◌<◌, ◌^◌, refl, sym, ap, ◌∙◌, ap₂, arith, add-one, ℤ, pos, ◌*ℤ◌, neg_ℤ, ◌-ℤ◌, ◌≢◌, List, [], ◌∷◌, ◌++◌, length, length-set, get_or, get_or-set_same, take, set, All, map, inl, inr}
-use Rattle.std.proofs.Math.Nat.{eq-or-lt_of_le, mul-le-mul_right}
+use Rattle.std.proofs.Math.Nat.{eq-or-lt_of_le}
 use Rattle.std.proofs.Math.Seq.{get_or-append_seam}
-use Rattle.std.proofs.lemmas.Bool.{cases_lt}
 use Rattle.std.proofs.lemmas.Int.{ints}
-use Rattle.std.proofs.lemmas.Nat.{le-div}
 use Rattle.std.proofs.lemmas.List.{map-append, get_or_append_left, length-append, take_more, take-set}
 use Rattle.std.proofs.lemmas.List.Elements.{All-set}
-use Rattle.definitions.specs.Words.{binom, up_to}
+use Rattle.definitions.specs.Words.{up_to}
 use Rattle.definitions.specs.Sums.{count_below}
 use Rattle.definitions.specs.Signature.{limit}
-use Rattle.definitions.specs.Logarithm.{lcm_to, sign, surjections, log_bound}
-use Rattle.definitions.proofs.SumLaws.{count_below-same, count_below-mul, term-le-count_below}
+use Rattle.definitions.specs.Logarithm.{lcm_to, sign, log_bound}
 use Rattle.definitions.proofs.Integers.{one-mul_ℤ}
 use Rattle.exp_log.specs.Powers.{log_factor}
 use Rattle.exp_log.specs.Faults.{LogFits}
@@ -31,41 +28,6 @@ pub factor-even : (m k n : ℕ) → 1 ≤ m → m % 2 ≢ 1 → n ≡ lcm_to k �
 factor-even m k n some even e =
     let minus : sign (m - 1) ≡ neg_ℤ (pos 1) = (sign-parity (m - 1)).1 (omega arith) in
     omega (arith, ints, ap₂ (λ (z : ℤ) (j : ℕ). z *ℤ pos (j / m)) minus (sym e))
-
-lcm-enough : (k : ℕ) → k ≤ 8 → k ≤ lcm_to k
-lcm-enough zero h = omega arith
-lcm-enough (suc zero) h = omega arith
-lcm-enough (suc (suc zero)) h = omega arith
-lcm-enough (suc (suc (suc zero))) h = omega arith
-lcm-enough (suc (suc (suc (suc zero)))) h = omega arith
-lcm-enough (suc (suc (suc (suc (suc zero))))) h = omega arith
-lcm-enough (suc (suc (suc (suc (suc (suc zero)))))) h = omega arith
-lcm-enough (suc (suc (suc (suc (suc (suc (suc zero))))))) h = omega arith
-lcm-enough (suc (suc (suc (suc (suc (suc (suc (suc zero)))))))) h = omega arith
-lcm-enough (suc (suc (suc (suc (suc (suc (suc (suc (suc k))))))))) h = absurd (omega arith)
-
--- no map of fewer things is onto
-surjections-none : (m k : ℕ) → k < m → surjections m k ≡ 0
-surjections-none zero k h = absurd (omega arith)
-surjections-none (suc m) k h =
-    let f : ℕ → ℕ = λ i. binom k (suc i) * surjections m (k - suc i) in
-    count_below-same k f (λ i. 0 * f i) (λ i l. omega (arith, ap (λ (n : ℕ). binom k (suc i) * n) (surjections-none m (k - suc i) (omega arith))))
-    ∙ count_below-mul k 0 f ∙ (let e : 0 * count_below k f ≡ 0 = omega arith in e)
-
--- a power of at most eight letters is bounded as the logarithm is
-pub surjections-bound : (m k : ℕ) → k ≤ 8 → surjections (suc m) k ≤ log_bound k
-unfolding log_bound
-surjections-bound m k small =
-    elim (cases_lt m k) [
-      | inl few ↦
-          let some : 1 ≤ lcm_to k / suc m = le-div 1 (lcm_to k) (suc m) (omega arith) (omega (arith, lcm-enough k small)) in
-          omega (
-            arith,
-            mul-le-mul_right (surjections (suc m) k) some,
-            term-le-count_below k m (λ j. lcm_to k / suc j * surjections (suc j) k) few,
-          )
-      | inr many ↦ omega (arith, surjections-none (suc m) k (omega arith))
-    ]
 
 pub log_bound-some : (k : ℕ) → k < 8 → 1 ≤ log_bound (k + 1)
 unfolding log_bound count_below

@@ -1,6 +1,8 @@
 pub mod PowerBounds
 pub mod Factors
-pub mod AddedLaws
 pub mod SeriesLaws
 pub mod ShuffleRelations
 pub mod LogarithmsOnShuffles
+pub mod HornerSeries
+pub mod HornerBounds
+pub mod HornerSteps

@@ -17,7 +17,10 @@ use Rattle.definitions.proofs.SumLaws.{sum_below-add, sum_below-mul, sum_below-s
 use Rattle.definitions.proofs.Binomials.{binom-all}
 use Rattle.definitions.proofs.ProductLaws.{scaled_product-unit_left}
 use Rattle.shuffle.proofs.ShuffleSums.{exchange, add-mul_ℤ, over, cut, cuts, cut-same, cut-same-length, cut-mul, cut-add, pair_over, over-same, over-none_left, over-none_right, sum_over-same, sum_over-mul}
-use Rattle.exp_log.proofs.ShuffleRelations.{weighted, scaled_product-cut, outer-cell, products, swapped, four, unit-longer, unit-obeys, signature-obeys}
+use Rattle.lie_steps.proofs.StepLaws.{step-empty}
+use Rattle.exp_log.proofs.ShuffleRelations.{weighted, scaled_product-cut, outer-cell, products, four, unit-longer, unit-obeys, signature-obeys}
+use Rattle.lie_steps.proofs.Concatenations.{swapped}
+use Rattle.lie_steps.proofs.Exponentials.{sum_over-sum_below}
 
 zero-left : (n : ℕ) (x : ℤ) → pos n *ℤ (pos 0 *ℤ x) ≡ pos 0
 zero-left n x = ap (λ (z : ℤ). pos n *ℤ z) (zero-mul_ℤ x) ∙ *ℤ-zero (pos n)
@@ -347,12 +350,6 @@ table-at k a b small sa sb within =
     all_below-at 9 (λ c. guarded (wanted k a c) (λ x. is_zero (alternating k a c))) b column (omega arith) in
     is_zero-true (alternating k a b) (sym (ap (λ (w : Bool). guarded w (λ x. is_zero (alternating k a b))) asked) ∙ entry)
 
--- ---- the logarithm
-sum_over-sum_below : (n : ℕ) (f : ℕ → List ℕ → ℤ) (ws : List (List ℕ)) → sum_over (λ w. sum_below n (λ m. f m w)) ws ≡ sum_below n (λ m. sum_over (f m) ws)
-sum_over-sum_below n f [] = sym (sum_below-zero n (λ m. pos 0) (λ m h. refl))
-sum_over-sum_below n f (w ∷ ws) =
-    ap (λ (z : ℤ). sum_below n (λ m. f m w) +ℤ z) (sum_over-sum_below n f ws) ∙ sym (sum_below-add n (λ m. f m w) (λ m. sum_over (f m) ws))
-
 -- the terms of one pair of powers
 pair-terms : (k n : ℕ) (c : ℕ → ℤ) (d : ℕ → ℕ → ℕ → ℕ) (f : ℕ → ℕ → ℤ)
     → sum_below k (λ m. c m *ℤ grid n (d m) f) ≡ sum_below n (λ a. sum_below n (λ b. sum_below k (λ m. c m *ℤ pos (d m a b)) *ℤ f a b))
@@ -389,9 +386,11 @@ pair-none s u v k (suc a) (suc b) su sv ek small =
 
 -- ---- the logarithm vanishes on shuffles
 fold-empty : (moves : List Parts) (s : List ℕ → ℤ) → fold (λ t x. scaled_product t (step x)) s moves [] ≡ s []
-unfolding scaled_product product_term sum_below step
+unfolding scaled_product product_term sum_below
 fold-empty [] s = refl
-fold-empty (x ∷ moves) s = fold-empty moves (scaled_product s (step x)) ∙ omega (arith, ints, one-mul_ℤ (s [] *ℤ pos 1), mul-one_ℤ (s []))
+fold-empty (x ∷ moves) s =
+    fold-empty moves (scaled_product s (step x))
+    ∙ ap (λ (z : ℤ). pos 0 +ℤ (pos 1 *ℤ (s [] *ℤ z))) (step-empty x) ∙ omega (arith, ints, one-mul_ℤ (s [] *ℤ pos 1), mul-one_ℤ (s []))
 
 pub signature-IsGrouplike : (moves : List Parts) → IsGrouplike (signature moves)
 unfolding signature

@@ -1,19 +1,29 @@
 -- The bounds on the powers of a reduced series and on its logarithm, at words that meet a condition which their fronts and rests meet too.
 use Rattle.std.proofs.Common.{◌≡◌, ℕ, zero, suc, ◌+◌, ◌*◌, ◌-◌, ◌/◌, ◌≤◌, ◌<◌, ◌^◌, min, refl, sym, ap, ◌∙◌, subst, arith, ℤ, pos, ◌+ℤ◌, ◌*ℤ◌, unsigned_abs, List, [], ◌∷◌, length, take, drop, length-take, length-drop}
+use Rattle.std.specs.Prelude.{All}
 use Rattle.std.proofs.Math.Nat.{pow-zero, mul-le-mul, mul-le-mul_left, le_trans, le_of_eq}
 use Rattle.std.proofs.lemmas.Nat.{pow-add}
 use Rattle.std.proofs.lemmas.Int.{ints, unsigned_abs-mul}
 use Rattle.definitions.specs.Sums.{sum_below, count_below}
-use Rattle.definitions.specs.Words.{binom}
-use Rattle.definitions.specs.Moves.{Parts}
+use Rattle.definitions.specs.Words.{Extent, IsWord, binom}
+use Rattle.definitions.specs.Moves.{Parts, IsMove}
 use Rattle.definitions.specs.Signature.{signature, weight}
 use Rattle.definitions.specs.Products.{unit, scaled_product, product_term}
 use Rattle.definitions.specs.Logarithm.{lcm_to, sign, power, reduced, logarithm, surjections, log_bound}
 use Rattle.definitions.proofs.Integers.{zero-mul_ℤ}
-use Rattle.definitions.proofs.SumLaws.{count_below-le, count_below-part, count_below-mul, abs-sum_below, sum_below-first, sum_below-same, term-le-count_below}
+use Rattle.definitions.proofs.SumLaws.{count_below-le, count_below-part, count_below-mul, abs-sum_below, sum_below-first, sum_below-same}
 use Rattle.definitions.proofs.ProductLaws.{scaled_product-same}
 use Rattle.definitions.proofs.SignatureLaws.{signature-bound}
-use Rattle.exp_log.specs.Powers.{log_term, partial_logarithm}
+use Rattle.lie_steps.proofs.StepLaws.{moves-StepsBounded}
+use Rattle.definitions.proofs.ProductBounds.{abs-triple}
+
+-- what the power after m others adds to the logarithm at a word
+abbrev pub log_term : (List ℕ → ℤ) → List ℕ → ℕ → ℤ
+log_term s word m = (sign m *ℤ pos (lcm_to (length word) / suc m)) *ℤ power s (suc m) word
+
+-- the sum over the first n powers, without those of more parts than the word has letters
+unfoldable pub partial_logarithm : (List ℕ → ℤ) → ℕ → List ℕ → ℤ
+partial_logarithm s n word = sum_below (min n (length word)) (log_term s word)
 
 -- the fronts and rests of a word meet it too
 pub record IsClosed (P : List ℕ → Type 0) : Type 0 where
@@ -23,9 +33,6 @@ pub record IsClosed (P : List ℕ → Type 0) : Type 0 where
 -- a coefficient at k letters is at most v ^ k
 abbrev pub Within : (List ℕ → Type 0) → (List ℕ → ℤ) → ℕ → Type 0
 Within P s v = (w : List ℕ) → P w → unsigned_abs (s w) ≤ v ^ length w
-
-abs-triple : (n : ℕ) (a b : ℤ) → unsigned_abs (pos n *ℤ (a *ℤ b)) ≡ n * (unsigned_abs a * unsigned_abs b)
-abs-triple n a b = omega (arith, unsigned_abs-mul (pos n) (a *ℤ b), ap (λ (m : ℕ). n * m) (unsigned_abs-mul a b))
 
 reduced-bound : (P : List ℕ → Type 0) (s : List ℕ → ℤ) (v : ℕ) → Within P s v → Within P (reduced s) v
 reduced-bound P s v h [] is = omega arith
@@ -85,7 +92,7 @@ unfolding scaled_product
 power-bound P s v closed h zero w is = unit-bound v w
 power-bound P s v closed h (suc m) w is = cut-sum-bound P s v m closed h (power-bound P s v closed h m) w (length w) is (omega arith)
 
-sign-abs : (m : ℕ) → unsigned_abs (sign m) ≡ 1
+pub sign-abs : (m : ℕ) → unsigned_abs (sign m) ≡ 1
 sign-abs zero = refl
 sign-abs (suc m) = omega (arith, ints, sign-abs m)
 
@@ -108,12 +115,6 @@ terms-bound P s v closed h w n is le =
     (le_trans (count_below-part k n (λ m. v ^ k * (lcm_to k / suc m * surjections (suc m) k)) le)
     (le_of_eq (count_below-mul k (v ^ k) (λ m. lcm_to k / suc m * surjections (suc m) k))))
 
--- a single term is within the bound of the whole
-pub log_term-bound : (P : List ℕ → Type 0) (s : List ℕ → ℤ) (v : ℕ) → IsClosed P → Within P s v → (w : List ℕ) (m : ℕ) → P w → m < length w
-    → unsigned_abs (log_term s w m) ≤ v ^ length w * log_bound (length w)
-log_term-bound P s v closed h w m is lt =
-    le_trans (term-le-count_below (length w) m (λ i. unsigned_abs (log_term s w i)) lt) (terms-bound P s v closed h w (length w) is (omega arith))
-
 pub partial_logarithm-bound : (P : List ℕ → Type 0) (s : List ℕ → ℤ) (v : ℕ) → IsClosed P → Within P s v → (w : List ℕ) (n : ℕ) → P w
     → unsigned_abs (partial_logarithm s n w) ≤ v ^ length w * log_bound (length w)
 unfolding partial_logarithm
@@ -125,12 +126,14 @@ pub partial_logarithm-all : (s : List ℕ → ℤ) (n : ℕ) (w : List ℕ) → 
 unfolding partial_logarithm logarithm
 partial_logarithm-all s n w h = let e : min n (length w) ≡ length w = omega arith in ap (λ (k : ℕ). sum_below k (log_term s w)) e
 
+short-closed : (depth : ℕ) → IsClosed (λ u. length u ≤ depth)
+short-closed depth = record { front = λ n u is. omega (arith, length-take n u); back = λ n u is. omega (arith, length-drop n u) }
+
 -- each coefficient of the logarithm of a signature is at most the power of the weight times the bound
-pub logarithm-bound : (moves : List Parts) (w : List ℕ) → unsigned_abs (logarithm (signature moves) w) ≤ weight moves ^ length w * log_bound (length w)
-logarithm-bound moves w =
-    let all : IsClosed (λ u. Unit {0}) = record { front = λ n u is. is; back = λ n u is. is } in
+pub logarithm-bound : (extent : Extent) (moves : List Parts) (w : List ℕ) → All (IsMove extent) moves → IsWord extent w → unsigned_abs (logarithm (signature moves) w) ≤ weight moves ^ length w * log_bound (length w)
+logarithm-bound extent moves w are is =
     subst (λ (z : ℤ). unsigned_abs z ≤ weight moves ^ length w * log_bound (length w)) (partial_logarithm-all (signature moves) (length w) w (omega arith))
-    (partial_logarithm-bound (λ u. Unit {0}) (signature moves) (weight moves) all (λ u is. signature-bound moves u) w (length w) tt)
+    (partial_logarithm-bound (λ u. length u ≤ extent.depth) (signature moves) (weight moves) (short-closed extent.depth) (signature-bound extent.depth moves (moves-StepsBounded extent moves are)) w (length w) is.short)
 
 reduced-same : (P : List ℕ → Type 0) (s t : List ℕ → ℤ) → ((w : List ℕ) → P w → s w ≡ t w) → (w : List ℕ) → P w → reduced s w ≡ reduced t w
 reduced-same P s t same [] is = refl

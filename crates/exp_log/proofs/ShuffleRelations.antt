@@ -1,16 +1,18 @@
 -- The signature obeys the shuffle relations.
-use Rattle.std.proofs.Common.{◌≡◌, ℕ, zero, suc, ◌+◌, ◌*◌, ◌≤◌, ◌-◌, refl, sym, ap, ap₂, ◌∙◌, arith, ℤ, pos, ◌+ℤ◌, ◌*ℤ◌, List, [], ◌∷◌, length, take, drop, length-take, length-drop}
-use Rattle.std.specs.Prelude.{fold, slice_index_or}
+use Rattle.std.proofs.Common.{◌≡◌, ℕ, zero, suc, ◌+◌, ◌*◌, ◌≤◌, refl, sym, ap, ap₂, ◌∙◌, arith, ℤ, pos, ◌*ℤ◌, List, [], ◌∷◌, length, take, drop, length-take, length-drop}
+use Rattle.std.specs.Prelude.{fold}
 use Rattle.std.proofs.Math.IntN.{*ℤ_comm, *ℤ-zero}
 use Rattle.definitions.specs.Words.{binom}
-use Rattle.definitions.specs.Moves.{Parts, first_part, along, step}
+use Rattle.definitions.specs.Moves.{Parts, step}
 use Rattle.definitions.specs.Signature.{signature}
 use Rattle.definitions.specs.Products.{unit, product_term, scaled_product}
 use Rattle.definitions.specs.Shuffles.{shuffles, sum_over}
-use Rattle.definitions.proofs.Integers.{mul_assoc_ℤ, zero-mul_ℤ, one-mul_ℤ, mul-one_ℤ}
+use Rattle.definitions.proofs.Integers.{mul_assoc_ℤ, zero-mul_ℤ, one-mul_ℤ}
 use Rattle.definitions.proofs.SumLaws.{sum_below-same}
 use Rattle.definitions.proofs.Binomials.{binom-all, trinomial}
-use Rattle.shuffle.proofs.ShuffleSums.{add-mul_ℤ, over, over-none_left, over-none_right, over-cons, over-same, sum_over-same, sum_over-mul, cut, cut-same, cut-same-length, cut-mul, cut-sum, cuts, pair_over}
+use Rattle.lie_steps.proofs.StepLaws.{step-obeys}
+use Rattle.shuffle.proofs.ShuffleSums.{over, over-none_left, over-same, sum_over-same, sum_over-mul, cut, cut-same, cut-same-length, cut-mul, cut-sum, cuts, pair_over}
+use Rattle.lie_steps.proofs.Concatenations.{swapped, sum_over-mul_right}
 
 -- the terms of the scaled product
 abbrev pub weighted : (s t : List ℕ → ℤ) → List ℕ → List ℕ → ℤ
@@ -67,21 +69,12 @@ products m n k x y =
     ∙ sym (mul_assoc_ℤ (pos n) (pos k) (x *ℤ y)))
     ∙ sym (mul_assoc_ℤ (pos m) (pos (n * k)) (x *ℤ y))
 
-pub swapped : (p q r z : ℤ) → (p *ℤ q) *ℤ (r *ℤ z) ≡ (p *ℤ r) *ℤ (q *ℤ z)
-swapped p q r z =
-    mul_assoc_ℤ p q (r *ℤ z)
-    ∙ ap (λ (x : ℤ). p *ℤ x) (sym (mul_assoc_ℤ q r z) ∙ ap (λ (x : ℤ). x *ℤ z) (*ℤ_comm q r) ∙ mul_assoc_ℤ r q z)
-    ∙ sym (mul_assoc_ℤ p r (q *ℤ z))
-
 inner-cell : (s t : List ℕ → ℤ) (x q z : List ℕ) → over (weighted s t x) q z ≡ pos (binom (length x + (length q + length z)) (length x)) *ℤ (s x *ℤ over t q z)
 inner-cell s t x q z =
     over-same q z (weighted s t x) (λ y. pos (binom (length x + (length q + length z)) (length x)) *ℤ (s x *ℤ t y))
     (λ y h. ap (λ (n : ℕ). pos (binom (length x + n) (length x)) *ℤ (s x *ℤ t y)) h)
     ∙ sum_over-mul (pos (binom (length x + (length q + length z)) (length x))) (λ y. s x *ℤ t y) (shuffles q z)
     ∙ ap (λ (n : ℤ). pos (binom (length x + (length q + length z)) (length x)) *ℤ n) (sum_over-mul (s x) t (shuffles q z))
-
-sum_over-mul_right : (c : ℤ) (f : List ℕ → ℤ) (ws : List (List ℕ)) → sum_over (λ w. f w *ℤ c) ws ≡ sum_over f ws *ℤ c
-sum_over-mul_right c f ws = sum_over-same (λ w. f w *ℤ c) (λ w. c *ℤ f w) ws (λ w. *ℤ_comm (f w) c) ∙ sum_over-mul c f ws ∙ *ℤ_comm c (sum_over f ws)
 
 pub outer-cell : (s t : List ℕ → ℤ) (p q r z : List ℕ)
     → pair_over (weighted s t) p q r z ≡ pos (binom (length p + length r + (length q + length z)) (length p + length r)) *ℤ (over s p r *ℤ over t q z)
@@ -120,48 +113,7 @@ product-obeys s t hs ht u v =
     (cut-same (λ p q. g p q *ℤ cut g v) (λ p q. cut g v *ℤ g p q) u (λ p q. *ℤ_comm (g p q) (cut g v)) ∙ cut-mul (cut g v) g u ∙ *ℤ_comm (cut g v) (cut g u)
     ∙ sym (ap₂ ◌*ℤ◌ (scaled_product-cut s t u) (scaled_product-cut s t v)))
 
--- ---- one move
-pulled : (e : ℤ) (n : ℕ) (x y : ℤ) → e *ℤ (pos n *ℤ (x *ℤ y)) ≡ pos n *ℤ ((e *ℤ x) *ℤ y)
-pulled e n x y =
-    sym (mul_assoc_ℤ e (pos n) (x *ℤ y)) ∙ ap (λ (z : ℤ). z *ℤ (x *ℤ y)) (*ℤ_comm e (pos n)) ∙ mul_assoc_ℤ (pos n) e (x *ℤ y)
-    ∙ ap (λ (z : ℤ). pos n *ℤ z) (sym (mul_assoc_ℤ e x y))
-
-pulled_right : (e : ℤ) (n : ℕ) (x y : ℤ) → e *ℤ (pos n *ℤ (x *ℤ y)) ≡ pos n *ℤ (x *ℤ (e *ℤ y))
-pulled_right e n x y =
-    pulled e n x y ∙ ap (λ (z : ℤ). pos n *ℤ z) (ap (λ (z : ℤ). z *ℤ y) (*ℤ_comm e x) ∙ mul_assoc_ℤ x e y)
-
-along-obeys-cons : (row : List ℤ) (a : ℕ) (u : List ℕ) → ((v : List ℕ) → over (along row) u v ≡ pos (binom (length u + length v) (length u)) *ℤ (along row u *ℤ along row v))
-    → (v : List ℕ) → over (along row) (a ∷ u) v ≡ pos (binom (length (a ∷ u) + length v) (length (a ∷ u))) *ℤ (along row (a ∷ u) *ℤ along row v)
-along-obeys-cons row a u before [] =
-    let all : binom (length (a ∷ u) + 0) (length (a ∷ u)) ≡ 1 = (let e : length (a ∷ u) + 0 ≡ length (a ∷ u) = omega arith in ap (λ (n : ℕ). binom n (length (a ∷ u))) e) ∙ binom-all (length (a ∷ u)) in
-    over-none_right (along row) (a ∷ u) ∙ sym (ap (λ (n : ℕ). pos n *ℤ (along row (a ∷ u) *ℤ pos 1)) all ∙ one-mul_ℤ (along row (a ∷ u) *ℤ pos 1) ∙ mul-one_ℤ (along row (a ∷ u)))
-along-obeys-cons row a u before (b ∷ v) =
-    let ea : ℤ = slice_index_or row (a - 1) (pos 0) in
-    let eb : ℤ = slice_index_or row (b - 1) (pos 0) in
-    let n : ℕ = length u in
-    let m : ℕ = length v in
-    let x : ℤ = along row u in
-    let y : ℤ = along row v in
-    let whole : ℤ = (ea *ℤ x) *ℤ (eb *ℤ y) in
-    let k : n + suc m ≡ suc n + m = omega arith in
-    let left : over (λ w. along row (a ∷ w)) u (b ∷ v) ≡ pos (binom (n + suc m) n) *ℤ whole =
-    sum_over-mul ea (along row) (shuffles u (b ∷ v)) ∙ ap (λ (z : ℤ). ea *ℤ z) (before (b ∷ v)) ∙ pulled ea (binom (n + suc m) n) x (eb *ℤ y) in
-    let right : over (λ w. along row (b ∷ w)) (a ∷ u) v ≡ pos (binom (suc n + m) (suc n)) *ℤ whole =
-    sum_over-mul eb (along row) (shuffles (a ∷ u) v) ∙ ap (λ (z : ℤ). eb *ℤ z) (along-obeys-cons row a u before v) ∙ pulled_right eb (binom (suc n + m) (suc n)) (ea *ℤ x) y in
-    let pascal : binom (suc n + suc m) (suc n) ≡ binom (n + suc m) n + binom (suc n + m) (suc n) =
-    (let e : suc n + suc m ≡ suc (n + suc m) = omega arith in ap (λ (j : ℕ). binom j (suc n)) e) ∙ ap (λ (j : ℕ). binom (n + suc m) n + binom j (suc n)) k in
-    over-cons (along row) a b u v ∙ ap₂ ◌+ℤ◌ left right
-    ∙ sym (add-mul_ℤ (pos (binom (n + suc m) n)) (pos (binom (suc n + m) (suc n))) whole)
-    ∙ ap (λ (j : ℕ). pos j *ℤ whole) (sym pascal)
-
-pub along-obeys : (row : List ℤ) → ObeysShuffles (along row)
-along-obeys row [] v = over-none_left (along row) v ∙ sym (one-mul_ℤ (pos 1 *ℤ along row v) ∙ one-mul_ℤ (along row v))
-along-obeys row (a ∷ u) v = along-obeys-cons row a u (along-obeys row u) v
-
-pub step-obeys : (x : Parts) → ObeysShuffles (step x)
-unfolding step
-step-obeys x u v = along-obeys (first_part x) u v
-
+-- ---- one move after another
 pub unit-longer : (w : List ℕ) → 1 ≤ length w → unit w ≡ pos 0
 unit-longer [] h = absurd (omega arith)
 unit-longer (a ∷ w) h = refl

@@ -1,4 +1,4 @@
 pub mod Logs
 pub mod Powers
-pub mod Sums
 pub mod Faults
+pub mod Horner

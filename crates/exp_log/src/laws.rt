@@ -1,15 +1,15 @@
 //! Laws of the logarithm. The functions do nothing: what they ensure is the law.
-ghost use Rattle.std.specs.Prelude.{◌≡◌, ◌+◌, ◌*◌, ◌^◌, ◌≤◌, ◌*ℤ◌, List, ℕ, pos, length, unsigned_abs};
-ghost use Rattle.definitions.specs.Words.{binom};
-ghost use Rattle.definitions.specs.Moves.{Parts};
+ghost use Rattle.std.specs.Prelude.{◌≡◌, ◌+◌, ◌*◌, ◌^◌, ◌≤◌, ◌*ℤ◌, List, All, ℕ, pos, length, unsigned_abs};
+ghost use Rattle.definitions.specs.Words.{Extent, IsWord, binom};
+ghost use Rattle.definitions.specs.Moves.{Parts, IsMove};
 ghost use Rattle.definitions.specs.Signature.{signature, weight};
 ghost use Rattle.definitions.specs.Shuffles.{shuffles, sum_over};
 ghost use Rattle.definitions.specs.Logarithm.{logarithm, log_bound as bound_factor};
 
-/// At a word of k letters the logarithm of a signature is at most the k-th power of the weight
+/// For moves and words of one shape the logarithm of a signature at k letters is at most the k-th power of the weight
 /// times the bound of a logarithm.
 pub fn bounded_by_weight()
-    ensures { (moves : List Parts) (word : List ℕ) → unsigned_abs (logarithm (signature moves) word) ≤ weight moves ^ length word * bound_factor (length word) }
+    ensures { (extent : Extent) (moves : List Parts) (word : List ℕ) → All (IsMove extent) moves → IsWord extent word → unsigned_abs (logarithm (signature moves) word) ≤ weight moves ^ length word * bound_factor (length word) }
 {}
 
 /// The shuffle relations of a signature: over the shuffles of two words its numerators add up to

@@ -1,8 +1,8 @@
 //! The logarithm of a signature, exact, with the weight that bounds it.
 #![tactic(auto)]
 
-mod added;
 pub mod fault;
+mod horner;
 pub mod laws;
 pub mod logarithm;
 #[cfg(test)]

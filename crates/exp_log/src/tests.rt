@@ -42,6 +42,20 @@ fn two_rows(rt: HostRuntime) -> Result<(), Fail> {
     Ok(())
 }
 
+/// The first terms of the Baker-Campbell-Hausdorff series, over 1, 4 and 36.
+#[test]
+fn third_level_of_two_rows(rt: HostRuntime) -> Result<(), Fail> {
+    let mut sig = Sig::unit(rt.alloc(), Shape::new(2, 3)?)?;
+    extend_rows::<Brand>(&mut sig, &[&[1, 0], &[0, 1]], Blank::new(1))?;
+    let log = log(rt.alloc(), &sig)?;
+    levels_are(
+        &rt,
+        &log,
+        &[&[0], &[1, 1], &[0, 2, -2, 0], &[0, 3, -6, 3, 3, -6, 3, 0]],
+    );
+    Ok(())
+}
+
 #[test]
 fn greatest_row_of_one_letter(rt: HostRuntime) -> Result<(), Fail> {
     let mut sig = Sig::unit(rt.alloc(), Shape::new(1, 8)?)?;

@@ -7,6 +7,7 @@ use Rattle.std.proofs.lemmas.Bool.Decides.{nat_tests}
 use Rattle.dyadic.specs.Nodes.{NodeValue}
 use Rattle.node_cache.specs.Entries.{Entry, is_of, are_of_one_pair, entry_of, without_pair}
 
+-- an entry is of the pair that it tells
 pub is_of-same : (node : NodeValue) (since : ℕ) (e : Entry) → is_of node since e ≡ true → (node ≡ e.node) × (since ≡ e.since)
 is_of-same node since e h = grind (arith, nat_tests)
 
@@ -38,12 +39,14 @@ apart-filter p (e ∷ es) apart =
       | false ↦ apart-filter p es apart.1
     ]
 
+-- entries of distinct pairs, cut short
 pub apart-take : (n : ℕ) (es : List Entry) → IsDistinct are_of_one_pair es → IsDistinct are_of_one_pair (take n es)
 unfolding IsDistinct
 apart-take zero es apart = tt
 apart-take (suc n) [] apart = tt
 apart-take (suc n) (e ∷ es) apart = (AllByRecursion-take (λ f. are_of_one_pair e f ≡ false) n es apart.0, apart-take n es apart.1)
 
+-- entries of distinct pairs, one taken out
 pub apart-without : (node : NodeValue) (since : ℕ) (es : List Entry) → IsDistinct are_of_one_pair es → IsDistinct are_of_one_pair (without_pair node since es)
 apart-without node since es apart = apart-filter (λ e. not (is_of node since e)) es apart
 
@@ -74,6 +77,7 @@ without-none node since [] none = refl
 without-none node since (e ∷ es) none =
     ap (λ b. cond (not b) (e ∷ without_pair node since es) (without_pair node since es)) none.0 ∙ ap (λ fs. e ∷ fs) (without-none node since es none.1)
 
+-- no more entries than before
 pub length-without : (node : NodeValue) (since : ℕ) (es : List Entry) → length (without_pair node since es) ≤ length es
 length-without node since [] = omega arith
 length-without node since (e ∷ es) =
@@ -97,6 +101,7 @@ entry_of-found node since (f ∷ es) e h =
           (rest.0, subst (λ b. length (cond (not b) (f ∷ without_pair node since es) (without_pair node since es)) < length (f ∷ es)) (sym other) (omega (arith, rest.1))))
     ]
 
+-- nothing goes where the pair isn't there
 pub entry_of-none : (node : NodeValue) (since : ℕ) (es : List Entry) → entry_of node since es ≡ None → without_pair node since es ≡ es
 entry_of-none node since [] none = refl
 entry_of-none node since (f ∷ es) none =

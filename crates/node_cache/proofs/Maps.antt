@@ -47,6 +47,7 @@ module _ {Z : Type 0} (node : NodeValue) (since : ℕ) where
             ∙ sym (ap (λ b. option_map entry_at (cond b (Some e) (lookup_entry (is_pair node since) es))) other)
       ]
 
+  -- the signature of a pair is the one that the map has for it
   pub sig_of-map : (es : List (Shared Z)) → sig_of node since (map entry_at es) ≡ option_map arc_value (lookup (is_pair node since) es)
   sig_of-map [] = refl
   sig_of-map (e ∷ es) =
@@ -58,6 +59,7 @@ module _ {Z : Type 0} (node : NodeValue) (since : ℕ) where
             ∙ sym (ap (λ b. option_map arc_value (cond b (Some e.1) (lookup (is_pair node since) es))) other)
       ]
 
+  -- the pair has an entry where the map has the pair
   pub is_some-entry_of : (es : List (Shared Z)) → is_some (entry_of node since (map entry_at es)) ≡ is_some (lookup (is_pair node since) es)
   is_some-entry_of es =
       sym (found (λ (e : Entry). e.sig) (entry_of node since (map entry_at es))) ∙ ap is_some (sig_of-map es) ∙ found arc_value (lookup (is_pair node since) es)
@@ -84,6 +86,7 @@ take-front zero e es some = absurd (omega arith)
 take-front (suc n) e es some = ap (λ k. e ∷ take k es) (omega arith)
 
 module _ {Z : Type 0} (cache : LruCache (NodeValue × ℕ) (Arc SigValue Z)) (node : NodeValue) (since : ℕ) (is : IsCache (cache_of cache)) where
+  -- taking a pair out of the map takes its entry out of the list
   pub cache_of-without : (new : LruCache (NodeValue × ℕ) (Arc SigValue Z)) → new ≡ lru_cache (remove_entry (is_pair node since) cache.entries) cache.cap
       → cache_of new ≡ with_entries (cache_of cache) (without_pair node since (cache_of cache).entries)
   cache_of-without new is_new = ap cache_of is_new ∙ ap (with_entries (cache_of cache)) (sym (without-map node since cache.entries is.apart))
@@ -93,6 +96,7 @@ module _ {Z : Type 0} (cache : LruCache (NodeValue × ℕ) (Arc SigValue Z)) (no
   to_front None = refl
   to_front (Some e) = ap (λ es. entry_at e ∷ es) (sym (without-map node since cache.entries is.apart))
 
+  -- using a pair in the map brings its entry to the front
   pub cache_of-promoted : (new : LruCache (NodeValue × ℕ) (Arc SigValue Z)) → new ≡ lru_cache (moved (is_pair node since) cache.entries) cache.cap
       → cache_of new ≡ with_entries (cache_of cache) (promoted node since (cache_of cache).entries)
   cache_of-promoted new is_new =
@@ -118,6 +122,7 @@ module _ {Z : Type 0} (cache : LruCache (NodeValue × ℕ) (Arc SigValue Z)) (no
       ∙ ap (λ s. front node s (arc_value sig) ∷ without_pair node since (map entry_at cache.entries)) (sym same.1)
       ∙ sym (take_all cache.cap (front node since (arc_value sig) ∷ without_pair node since (map entry_at cache.entries)) (omega (arith, found.1, is.room)))
 
+  -- putting a pair into the map puts its entry to the front, and drops the last one past the capacity
   pub cache_of-kept : (sig : Arc SigValue Z) (new : LruCache (NodeValue × ℕ) (Arc SigValue Z)) → new ≡ lru_cache (put_entries (λ pair. is_pair pair.0 pair.1) cache (node, since) sig) cache.cap
       → cache_of new ≡ with_entries (cache_of cache) (kept node since (arc_value sig) cache.cap (cache_of cache).entries)
   cache_of-kept sig new is_new = ap cache_of is_new ∙ ap (with_entries (cache_of cache)) (put_cases sig (lookup_entry (is_pair node since) cache.entries) refl)

@@ -5,6 +5,7 @@ use Rattle.std.specs.Option.{option_map, option_map_or}
 use Rattle.std.specs.Arc.{arc_value}
 use Rattle.std.specs.declared.sync.Arc.{Arc}
 use Rattle.lru.specs.LruCache.{LruCache}
+use Rattle.words.specs.Capacities.{most_capacity}
 use Rattle.tensor_product.specs.Sigs.{SigValue}
 use Rattle.dyadic.specs.Nodes.{NodeValue}
 
@@ -14,6 +15,7 @@ pub record Entry : Type 0 where
   pub since : ℕ
   pub sig : SigValue
 
+-- at most so many entries, the most recent first
 pub record CacheValue : Type 0 where
   pub capacity : ℕ
   pub entries : List Entry
@@ -26,9 +28,10 @@ is_of node since entry = nat_eq node.index entry.node.index && nat_eq node.heigh
 abbrev pub are_of_one_pair : Entry → Entry → Bool
 are_of_one_pair e f = is_of e.node e.since f
 
+-- a cache that is served: 1 to 16384 entries at most, no two of one pair of a node and a version
 pub record IsCache (cache : CacheValue) : Type 0 where
   pub some : 1 ≤ cache.capacity
-  pub within : cache.capacity ≤ 16384
+  pub within : cache.capacity ≤ most_capacity
   pub room : length cache.entries ≤ cache.capacity
   pub apart : IsDistinct are_of_one_pair cache.entries
 
@@ -57,5 +60,6 @@ kept node since sig capacity entries =
 abbrev pub entry_at : {Z : Type 0} → (NodeValue × ℕ) × Arc SigValue Z → Entry
 entry_at e = record { node = e.0.0; since = e.0.1; sig = arc_value e.1 }
 
+-- the cache that a map with this capacity stands for
 abbrev pub cache_of : {Z : Type 0} → LruCache (NodeValue × ℕ) (Arc SigValue Z) → CacheValue
 cache_of c = record { capacity = c.cap; entries = map entry_at c.entries }

@@ -11,7 +11,7 @@ use std::marker::Model;
 use std::num::NonZeroUsize;
 use std::sync::Arc;
 use tensor_product::Sig;
-use words::Memory;
+use words::{Capacity, Memory};
 
 /// The signatures of the nodes that were used most recently, each under its node and the version
 /// from which on it is that of the node's rows. Seen as the list of its entries, the most recent
@@ -36,12 +36,10 @@ impl Model for NodeCache {
 
 impl NodeCache {
     /// A cache without entries.
-    pub fn new(alloc: Global, capacity: u32) -> Result<NodeCache, Memory>
-        requires some { 1 ≤ capacity }
-        requires within { capacity ≤ 16384 }
+    pub fn new(alloc: Global, capacity: Capacity) -> Result<NodeCache, Memory>
         ensures { IfOk result (λ c. c ≡ record { capacity = capacity; entries = [] }) }
     {
-        let capacity = NonZeroUsize::new(capacity as usize).unwrap();
+        let capacity = NonZeroUsize::new(capacity.get() as usize).unwrap();
         Ok(NodeCache {
             signatures: LruCache::sparse(alloc, capacity)?,
         })

@@ -4,10 +4,16 @@ use std::alloc::Global;
 use std::sync::Arc;
 use std::test::Fail;
 use tensor_product::Sig;
-use words::Shape;
+use words::{Capacity, Shape};
 
 fn node(k: u64, n: i8) -> Result<Node, Fail> {
     Ok(Node::new(k, n).ok_or("no such node")?)
+}
+
+/// A cache of so many nodes.
+fn cache_of(alloc: Global, nodes: u32) -> Result<NodeCache, Fail> {
+    let capacity = Capacity::new(nodes).ok_or("no capacity")?;
+    Ok(NodeCache::new(alloc, capacity)?)
 }
 
 /// A signature that is told by its width.
@@ -23,7 +29,7 @@ fn width(cache: &NodeCache, node: Node, since: u64) -> Option<u32> {
 #[test]
 fn last_entry_goes(rt: HostRuntime) -> Result<(), Fail> {
     let alloc = rt.alloc();
-    let mut cache = NodeCache::new(alloc, 1)?;
+    let mut cache = cache_of(alloc, 1)?;
     cache.keep(node(0, 0)?, 1, sig(alloc, 1)?)?;
     cache.keep(node(1, 0)?, 2, sig(alloc, 2)?)?;
     assert_eq!(rt; cache.capacity(), 1);
@@ -36,7 +42,7 @@ fn last_entry_goes(rt: HostRuntime) -> Result<(), Fail> {
 #[test]
 fn found_entry_stays(rt: HostRuntime) -> Result<(), Fail> {
     let alloc = rt.alloc();
-    let mut cache = NodeCache::new(alloc, 2)?;
+    let mut cache = cache_of(alloc, 2)?;
     cache.keep(node(0, 0)?, 1, sig(alloc, 1)?)?;
     cache.keep(node(1, 0)?, 2, sig(alloc, 2)?)?;
     assert!(rt; cache.find(node(0, 0)?, 1));
@@ -51,7 +57,7 @@ fn found_entry_stays(rt: HostRuntime) -> Result<(), Fail> {
 #[test]
 fn peek_keeps_the_order(rt: HostRuntime) -> Result<(), Fail> {
     let alloc = rt.alloc();
-    let mut cache = NodeCache::new(alloc, 2)?;
+    let mut cache = cache_of(alloc, 2)?;
     cache.keep(node(0, 0)?, 1, sig(alloc, 1)?)?;
     cache.keep(node(1, 0)?, 1, sig(alloc, 2)?)?;
     assert_eq!(rt; width(&cache, node(0, 0)?, 1), Some(1));
@@ -64,7 +70,7 @@ fn peek_keeps_the_order(rt: HostRuntime) -> Result<(), Fail> {
 #[test]
 fn shared_signature_outlives_its_entry(rt: HostRuntime) -> Result<(), Fail> {
     let alloc = rt.alloc();
-    let mut cache = NodeCache::new(alloc, 2)?;
+    let mut cache = cache_of(alloc, 2)?;
     let kept = sig(alloc, 2)?;
     cache.keep(node(0, 0)?, 1, Arc::try_clone(&kept)?)?;
     cache.keep(node(0, 0)?, 2, sig(alloc, 3)?)?;

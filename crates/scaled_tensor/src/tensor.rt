@@ -1,9 +1,11 @@
-ghost use Rattle.std.specs.Prelude.{◌≡◌, ◌≢◌, ◌+◌, ◌^◌, ◌≤◌, ℕ, suc, List, All, length, take, pos, slice_index_or, unsigned_abs, IfOk, IsTrue, ◌↔◌};
+ghost use Rattle.std.specs.Prelude.{◌≡◌, ◌≢◌, ◌+◌, ◌-◌, ◌^◌, ◌<◌, ◌≤◌, ◌+ℤ◌, ℕ, suc, List, All, length, take, pos, slice_index_or, unsigned_abs, IfOk, IsTrue, ◌↔◌};
 ghost use Rattle.definitions.specs.Words.{IsShape, IsWord, IsLetter, shorter, number};
 ghost use Rattle.definitions.specs.Products.{unit as one};
 ghost use Rattle.definitions.specs.Signature.{limit};
-ghost use Rattle.scaled_tensor.specs.Tensors.{TensorValue, IsTensor, coefficient};
+ghost use Rattle.scaled_tensor.specs.Tensors.{TensorValue, IsTensor, coefficient, outer_at, HasOuterRoomWithin};
 
+use crate::arithmetic::Arithmetic;
+use crate::outer;
 use std::alloc::Global;
 use std::marker::Model;
 use words::{Memory, Shape};
@@ -85,6 +87,14 @@ impl Tensor {
         })
     }
 
+    /// Becomes another tensor of its shape. Takes no memory.
+    pub fn assign(&mut self, other: &Tensor)
+        requires { other.now.extent ≡ self.old.extent }
+        ensures { self.new ≡ other.now }
+    {
+        self.coefficients.copy_from_slice(&other.coefficients);
+    }
+
     /// Whether the shapes are equal, and the coefficients of each word.
     pub fn equal(&self, other: &Tensor) -> bool
         ensures { IsTrue result ↔ self.now ≡ other.now }
@@ -138,6 +148,36 @@ impl Tensor {
     {
         let place = self.shape.place_of(word);
         self.coefficients[place as usize] = value;
+    }
+
+    /// Writes 0 for each word of k letters.
+    pub fn clear(&mut self, k: u32)
+        requires { k ≤ self.old.extent.depth }
+        ensures extent { self.new.extent ≡ self.old.extent }
+        ensures cleared { (word : List ℕ) → IsWord self.old.extent word → length word ≡ k → coefficient self.new word ≡ pos 0 }
+        ensures others { (word : List ℕ) → IsWord self.old.extent word → length word ≢ k → coefficient self.new word ≡ coefficient self.old word }
+    {
+        let from = self.shape.before(k) as usize;
+        let next = self.shape.before(k + 1) as usize;
+        outer::clear(&mut self.coefficients, from, next);
+    }
+
+    /// Adds an outer product to the coefficients of the words of k letters: at each word the number
+    /// of its first `cut` letters in the one list times that of the others in the other list.
+    pub fn add_outer<A: Arithmetic>(&mut self, k: u32, cut: u32, left: &[i128], right: &[i128])
+        requires k { k ≤ self.old.extent.depth }
+        requires cut { cut ≤ k }
+        requires left { length left.now ≡ self.old.extent.width ^ cut }
+        requires right { length right.now ≡ self.old.extent.width ^ (k - cut) }
+        requires left_in { (q : ℕ) → q < length left.now → unsigned_abs (slice_index_or left.now q (pos 0)) ≤ A.most }
+        requires right_in { (r : ℕ) → r < length right.now → unsigned_abs (slice_index_or right.now r (pos 0)) ≤ A.most }
+        requires room { (word : List ℕ) → IsWord self.old.extent word → length word ≡ k → HasOuterRoomWithin A.most self.old cut left.now right.now word }
+        ensures extent { self.new.extent ≡ self.old.extent }
+        ensures added { (word : List ℕ) → IsWord self.old.extent word → length word ≡ k → coefficient self.new word ≡ coefficient self.old word +ℤ outer_at self.old.extent.width cut left.now right.now word }
+        ensures others { (word : List ℕ) → IsWord self.old.extent word → length word ≢ k → coefficient self.new word ≡ coefficient self.old word }
+    {
+        let from = self.shape.before(k) as usize;
+        outer::add_outer::<A>(&mut self.coefficients, from, left, right);
     }
 
     /// The coefficients of the words of k letters, in lexicographic order.

@@ -8,7 +8,7 @@ use Rattle.definitions.specs.Words.{Extent}
 use Rattle.definitions.specs.Moves.{Parts}
 use Rattle.definitions.specs.Signature.{limit}
 use Rattle.tensor_product.specs.Sigs.{SigValue, StandsFor}
-use Rattle.solve.specs.Plans.{plan_weight, total_weight, PlanStands, PlansStand, missed, all_missed}
+use Rattle.solve.specs.Plans.{plan_weight, total_weight, PlanStands, PlansStand, missed, all_missed, IsUnit}
 use Rattle.solve.specs.Solutions.{SolvesPlan, SolvesPlans}
 use Rattle.solve.specs.declared.plan.Plan.{Plan}
 use Rattle.solve.proofs.Halves.{lighter-fits}
@@ -57,4 +57,15 @@ module _ (plans : List Plan) (i : ℕ) (plan : Plan) (within : i < length plans)
     stands = λ moves stands.
         let split = PlansStand-push (take i plans) plan moves (subst (λ ps. PlansStand ps moves) one_more stands) in
         subst (StandsFor sig) (sym split.4) (joined split.0 split.1 (before.stands split.0 split.2) (last.stands split.1 split.3));
+  }
+
+  -- a plan without rows changes nothing
+  pub solves-same : (extent : Extent) (a : SigValue) → IsUnit plan → SolvesPlans extent (take i plans) a → SolvesPlans extent (take (i + 1) plans) a
+  solves-same extent a unit before = record {
+    same_extent = before.same_extent;
+    weighs = omega (arith, before.weighs, weight-more, ap plan_weight unit.1);
+    stands = λ moves stands.
+        let split = PlansStand-push (take i plans) plan moves (subst (λ ps. PlansStand ps moves) one_more stands) in
+        let none : split.1 ≡ [] = subst (λ (p : Plan). PlanStands p split.1) unit.1 split.3 in
+        subst (StandsFor a) (sym (split.4 ∙ ap (λ b. split.0 ++ b) none ∙ append-nil split.0)) (before.stands split.0 split.2);
   }

@@ -62,6 +62,10 @@ abbrev pub PlansStand : List Plan → List Parts → Type 0
 PlansStand [] moves = moves ≡ []
 PlansStand (plan ∷ plans) moves = (a : List Parts) × (b : List Parts) × PlanStands plan a × PlansStand plans b × (moves ≡ a ++ b)
 
+-- for a node without rows
+abbrev pub IsUnit : Plan → Type 0
+IsUnit plan = (node : NodeValue) × (plan ≡ Unit node)
+
 -- how many nodes are kept
 abbrev pub hits_of : Plan → ℕ
 hits_of (Hit node sig) = 1

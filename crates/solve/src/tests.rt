@@ -1,8 +1,10 @@
 ghost use Rattle.std.specs.Prelude.{◌≡◌, ◌^◌, ◌<◌, ◌≤◌, IfOk};
+ghost use Rattle.definitions.specs.Moves.{IsMove};
 ghost use Rattle.solve.specs.Plans.{plan_weight, total_weight};
 
-use crate::{Plan, Solved, Through, Work, WorkFault, solve};
+use crate::{Plan, Solved, Through, Work, WorkFault, row_sig, solve};
 use dyadic::Node;
+use hall_set::HallSet;
 use increments::{Name, Row, RowList};
 use std::alloc::Global;
 use std::marker::Brand;
@@ -10,20 +12,27 @@ use std::process::Abort;
 use std::sync::Arc;
 use std::sync::ledger::{Blank, Ledger};
 use std::test::Fail;
-use tensor_product::Sig;
+use tensor_product::{ProductFault, Sig};
 use words::{Entries, Memory, Move, Shape, Steps};
 
 fn node(k: u64, n: i8) -> Result<Node, Fail> {
     Ok(Node::new(k, n).ok_or("no such node")?)
 }
 
+/// The move of these parts.
+fn move_of(alloc: Global, shape: Shape, given: &[&[i64]]) -> Result<Move, Fail> {
+    let mut parts = Vec::new(alloc);
+    for part in given {
+        parts.push(Entries::of(Vec::from_slice(alloc, part)?))?;
+    }
+    Ok(Move::of(shape, parts).ok_or("no such move")?)
+}
+
 /// A leaf of one row.
 fn leaf(alloc: Global, shape: Shape, node: Node, tick: u64, entries: &[i64]) -> Result<Plan, Fail>
-    ensures { IfOk result (λ plan. plan_weight plan ≤ 2 ^ 63) }
+    ensures { IfOk result (λ plan. plan_weight plan ≤ 2 ^ 64) }
 {
-    let mut parts = Vec::new(alloc);
-    parts.push(Entries::of(Vec::from_slice(alloc, entries)?))?;
-    let x = Move::of(shape, parts).ok_or("no such move")?;
+    let x = move_of(alloc, shape, &[entries])?;
     let _weight = x.weight();
     let name = Name::of(String::from_str(alloc, "a")?);
     let mut rows = Vec::new(alloc);
@@ -34,19 +43,45 @@ fn leaf(alloc: Global, shape: Shape, node: Node, tick: u64, entries: &[i64]) -> 
 /// The work of one plan.
 fn work_of(alloc: Global, shape: Shape, plan: Plan) -> Result<Result<Work, WorkFault>, Fail>
     requires { plan_weight plan < 2 ^ 128 }
+    ensures { IfOk result (λ work. IfOk work (λ work. work.extent ≡ shape)) }
 {
     let mut plans = Vec::new(alloc);
     plans.push(plan)?;
     Ok(Work::of(shape, 1, plans))
 }
 
-fn solved<L: Ledger>(alloc: Global, work: &Work, blank: Blank) -> Result<Solved, Memory>
+/// The solution of a work, with a count of its own.
+fn solved<L: Ledger>(
+    alloc: Global,
+    shape: Shape,
+    work: &Work,
+    blank: Blank,
+) -> Result<Solved, Memory>
+    requires shape { work.now.extent ≡ shape }
     requires name { blank.name ≡ L.name }
     requires parts { blank.parts ≡ L.parts }
     requires some { 0 < L.parts }
 {
     let mut steps: Steps<L> = Steps::new(blank);
-    solve(alloc, work, 1, &Through, &mut steps)
+    let hall = HallSet::build(alloc, shape)?;
+    solve(alloc, work, &hall, 1, &Through, &mut steps)
+}
+
+/// The signature of one row, with a count of its own.
+fn signed<L: Ledger>(
+    alloc: Global,
+    shape: Shape,
+    x: &Move,
+    blank: Blank,
+) -> Result<Sig, ProductFault>
+    requires move_of { IsMove shape x.now }
+    requires name { blank.name ≡ L.name }
+    requires parts { blank.parts ≡ L.parts }
+    requires some { 0 < L.parts }
+{
+    let mut steps: Steps<L> = Steps::new(blank);
+    let hall = HallSet::build(alloc, shape)?;
+    row_sig(alloc, x, &hall, &mut steps)
 }
 
 fn levels_are(rt: &impl Abort, sig: &Sig, expected: &[&[i128]]) {
@@ -65,7 +100,7 @@ fn one_leaf(rt: HostRuntime) -> Result<(), Fail> {
     let work = work_of(alloc, shape, plan)??;
     assert_eq!(rt; work.version(), 1);
     assert_eq!(rt; (work.hits(), work.misses(), work.exps()), (0, 1, 1));
-    let solved = solved::<Brand>(alloc, &work, Blank::new(1))?;
+    let solved = solved::<Brand>(alloc, shape, &work, Blank::new(1))?;
     levels_are(&rt, &solved.sig, &[&[1], &[2, 3], &[4, 6, 6, 9]]);
     assert_eq!(rt; solved.sig.weight(), 3);
     assert_eq!(rt; solved.nodes.len(), 1);
@@ -88,7 +123,7 @@ fn halves_of_a_split(rt: HostRuntime) -> Result<(), Fail> {
     assert_eq!(rt; plan.node(), node(0, 0)?);
     let work = work_of(alloc, shape, plan)??;
     assert_eq!(rt; (work.hits(), work.misses(), work.exps()), (1, 4, 2));
-    let solved = solved::<Brand>(alloc, &work, Blank::new(1))?;
+    let solved = solved::<Brand>(alloc, shape, &work, Blank::new(1))?;
     levels_are(&rt, &solved.sig, &[&[1], &[1, 1], &[1, 2, 0, 1]]);
     let mut nodes = Vec::new(alloc);
     for solved in &solved.nodes {
@@ -118,5 +153,37 @@ fn row_after_its_node(rt: HostRuntime) -> Result<(), Fail> {
     let plan = leaf(alloc, shape, node(0, 0)?, 65536, &[1])?;
     let work = work_of(alloc, shape, plan)?;
     assert_eq!(rt; work.err(), Some(WorkFault::Plan(0)));
+    Ok(())
+}
+
+#[test]
+fn signature_of_a_bracket(rt: HostRuntime) -> Result<(), Fail> {
+    let alloc = rt.alloc();
+    let shape = Shape::new(2, 2)?;
+    let x = move_of(alloc, shape, &[&[0, 0], &[1]])?;
+    assert_eq!(rt; x.weight(), 2);
+    if x.shape() == shape {
+        let sig = signed::<Brand>(alloc, shape, &x, Blank::new(1))?;
+        levels_are(&rt, &sig, &[&[1], &[0, 0], &[0, 2, -2, 0]]);
+        assert_eq!(rt; sig.weight(), 2);
+    }
+    Ok(())
+}
+
+#[test]
+fn heaviest_bracket(rt: HostRuntime) -> Result<(), Fail> {
+    let alloc = rt.alloc();
+    let shape = Shape::new(2, 8)?;
+    for (entry, weight, fault) in [
+        (225_720_576, 60096, None),
+        (225_720_577, 60097, Some(ProductFault::Overflow(60097))),
+    ] {
+        let x = move_of(alloc, shape, &[&[0, 0], &[entry]])?;
+        assert_eq!(rt; x.weight(), weight);
+        if x.shape() == shape {
+            let sig = signed::<Brand>(alloc, shape, &x, Blank::new(1));
+            assert_eq!(rt; sig.err(), fault);
+        }
+    }
     Ok(())
 }

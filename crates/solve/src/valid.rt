@@ -10,12 +10,6 @@ use dyadic::Node;
 use increments::Row;
 use words::Shape;
 
-fn is_shape(shape: Shape, other: Shape) -> bool
-    ensures { IsTrue result ↔ (other ≡ shape) }
-{
-    other.width() == shape.width() && other.depth() == shape.depth()
-}
-
 fn is_before(row: &Row, next: &Row) -> bool
     ensures { IsTrue result ↔ IsBefore row.now next.now }
 {
@@ -36,7 +30,7 @@ fn are_in_order(rows: &[Row]) -> bool
 fn is_row_of(shape: Shape, node: Node, row: &Row) -> bool
     ensures { IsTrue result ↔ IsRowOf shape node row.now }
 {
-    node.holds(row.tick()) && is_shape(shape, row.x().shape())
+    node.holds(row.tick()) && row.x().shape() == shape
 }
 
 fn are_rows_of(shape: Shape, node: Node, rows: &[Row]) -> bool
@@ -55,7 +49,7 @@ fn is_valid(shape: Shape, plan: &Plan) -> bool
     ensures { IsTrue result ↔ IsValid shape plan.now }
 {
     match plan {
-        Plan::Hit(_, sig) => is_shape(shape, sig.tensor().shape()),
+        Plan::Hit(_, sig) => sig.tensor().shape() == shape,
         Plan::Unit(_) => true,
         Plan::Leaf(node, rows) => are_rows_of(shape, *node, rows.list()),
         Plan::Split(node, left, right) => {

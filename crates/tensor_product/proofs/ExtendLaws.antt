@@ -1,5 +1,5 @@
 -- The tensor while it is extended: word by word in a level, level by level from the longest words down.
-use Rattle.std.proofs.Common.{◌≡◌, ℕ, suc, ◌≤◌, ◌<◌, ◌^◌, refl, sym, ap, ◌∙◌, subst, arith, List, [], ◌∷◌, length, take, drop, length-take, take_all, ℤ, inl, inr}
+use Rattle.std.proofs.Common.{◌≡◌, ℕ, suc, ◌≤◌, ◌<◌, ◌^◌, refl, sym, ap, ◌∙◌, subst, arith, List, [], ◌∷◌, length, take, drop, length-take, ℤ, inl, inr}
 use Rattle.std.proofs.lemmas.Int.{ints}
 use Rattle.std.proofs.lemmas.Bool.{cases_lt}
 use Rattle.std.proofs.Math.Nat.{pow-suc}
@@ -7,12 +7,11 @@ use Rattle.definitions.specs.Words.{Extent, IsWord, number}
 use Rattle.definitions.specs.Products.{unit, product_term, scaled_product}
 use Rattle.definitions.specs.Sums.{sum_below}
 use Rattle.definitions.specs.Moves.{along, greatest}
-use Rattle.definitions.proofs.WordLaws.{letters-take, number-injective, number-lt}
+use Rattle.definitions.proofs.WordLaws.{letters-take}
 use Rattle.definitions.proofs.MoveLaws.{along-bound}
 use Rattle.definitions.proofs.ProductLaws.{scaled_product-same, scaled_product-unit_right}
 use Rattle.scaled_tensor.specs.Tensors.{TensorValue, coefficient}
-use Rattle.tensor_product.specs.Extension.{prefixes_of, HasRoom, ExtendsAt, IsExtendedBy}
-use Rattle.tensor_product.proofs.PartialSums.{HasRoom-same}
+use Rattle.tensor_product.specs.Extension.{ExtendsAt, IsExtendedBy}
 
 pub word-take : (extent : Extent) (n : ℕ) (word : List ℕ) → IsWord extent word → IsWord extent (take n word)
 word-take extent n word h = record {
@@ -45,50 +44,6 @@ still x t none = record {
 -- the words of k letters whose number is below n
 abbrev pub IsBelow : ℕ → ℕ → ℕ → List ℕ → Type 0
 IsBelow width k n word = (length word ≡ k) × (number width word < n)
-
--- the prefixes of the next word are as they were
-prefixes-kept : (k n : ℕ) (x : List ℤ) (old now : TensorValue) (next : List ℕ) → ExtendsAt (IsBelow old.extent.width k n) x old now
-    → IsWord old.extent next → length next ≡ k → number old.extent.width next ≡ n → (i : ℕ) → i ≤ length next → coefficient now (take i next) ≡ coefficient old (take i next)
-prefixes-kept k n x old now next progress is_next len num i h =
-    progress.others (take i next) (word-take old.extent i next is_next)
-    (λ at.
-    let whole : take i next ≡ next = take_all i next (omega (arith, at.0, length-take i next)) in
-    omega (arith, at.1, ap (number old.extent.width) whole))
-
-pub room-kept : (k n : ℕ) (x : List ℤ) (old now : TensorValue) (next : List ℕ) → ExtendsAt (IsBelow old.extent.width k n) x old now
-    → IsWord old.extent next → length next ≡ k → number old.extent.width next ≡ n → HasRoom (prefixes_of old next) x next → HasRoom (prefixes_of now next) x next
-room-kept k n x old now next progress is_next len num room =
-    HasRoom-same (prefixes_of old next) (prefixes_of now next) x next (λ i h. sym (prefixes-kept k n x old now next progress is_next len num i h)) room
-
-pub below-step : (k n m : ℕ) (x : List ℤ) (old now new : TensorValue) (next : List ℕ) → ExtendsAt (IsBelow old.extent.width k n) x old now
-    → ExtendsAt (λ w. w ≡ next) x now new → IsWord old.extent next → length next ≡ k → number old.extent.width next ≡ n → m ≡ suc n
-    → ExtendsAt (IsBelow old.extent.width k m) x old new
-below-step k n m x old now new next progress step is_next len num em =
-    let moved : now.extent ≡ old.extent = progress.same_extent in
-    record {
-      same_extent = step.same_extent ∙ moved;
-      products = λ word is_word at.
-          let is_now : IsWord now.extent word = subst (λ (e : Extent). IsWord e word) (sym moved) is_word in
-          elim (cases_lt (number old.extent.width word) n) [
-            | inl before ↦ step.others word is_now (λ same. omega (arith, before, num, ap (number old.extent.width) same)) ∙ progress.products word is_word (at.0, before)
-            | inr from ↦
-                let same : word ≡ next = number-injective old.extent.width word next is_word.letters is_next.letters (at.0 ∙ sym len) (omega (arith, from, num, at.1)) in
-                step.products word is_now same
-                ∙ product-same (coefficient now) (coefficient old) x word
-                (subst (λ (w : List ℕ). (i : ℕ) → i ≤ length w → coefficient now (take i w) ≡ coefficient old (take i w)) (sym same) (prefixes-kept k n x old now next progress is_next len num))
-          ];
-      others = λ word is_word not_at.
-          let is_now : IsWord now.extent word = subst (λ (e : Extent). IsWord e word) (sym moved) is_word in
-          step.others word is_now (λ same. not_at (ap length same ∙ len, omega (arith, num, ap (number old.extent.width) same)))
-          ∙ progress.others word is_word (λ at. not_at (at.0, omega (arith, at.1)));
-    }
-
-pub below-all : (k n : ℕ) (x : List ℤ) (old now : TensorValue) → ExtendsAt (IsBelow old.extent.width k n) x old now → old.extent.width ^ k ≤ n → ExtendsAt (λ w. length w ≡ k) x old now
-below-all k n x old now progress enough = record {
-  same_extent = progress.same_extent;
-  products = λ word is_word at. progress.products word is_word (at, omega (arith, number-lt old.extent.width word is_word.letters, ap (λ (m : ℕ). old.extent.width ^ m) at));
-  others = λ word is_word not_at. progress.others word is_word (λ at. not_at at.0);
-}
 
 -- shorter words are as they were
 pub shorter-kept : (k : ℕ) (x : List ℤ) (old now : TensorValue) (word : List ℕ) → ExtendsAt (λ w. k < length w) x old now → IsWord old.extent word → length word ≤ k

@@ -1,4 +1,11 @@
 pub mod PartialSums
+pub mod GrowLaws
 pub mod ExtendLaws
+pub mod LevelLaws
 pub mod SigLaws
 pub mod MultiplyLaws
+pub mod ConcatenationLaws
+pub mod AddedLaws
+pub mod ExponentialLaws
+pub mod ExponentialSteps
+pub mod JoinLaws

@@ -1,26 +1,24 @@
 -- The product of two tensors: that no sum over cuts leaves the limit, how the words are written in their order, and what the product stands for.
-use Rattle.std.proofs.Common.{◌≡◌, ◌≢◌, ℕ, zero, suc, ◌+◌, ◌-◌, ◌≤◌, ◌^◌, refl, sym, ap, ap₂, ◌∙◌, subst, arith, add-one, List, [], ◌++◌, length, take, take_all, drop, length-drop, ℤ, pos, ◌+ℤ◌, ◌*ℤ◌, unsigned_abs, inl, inr}
-use Rattle.std.proofs.Math.Nat.{le_trans, mul-le-mul_right}
-use Rattle.std.proofs.lemmas.Bool.{cases_lt}
+use Rattle.std.proofs.Common.{◌≡◌, ℕ, zero, suc, ◌+◌, ◌-◌, ◌≤◌, ◌^◌, refl, sym, ap, ap₂, ◌∙◌, subst, arith, add-one, List, [], ◌++◌, length, take, take_all, drop, length-drop, ℤ, pos, ◌+ℤ◌, ◌*ℤ◌, unsigned_abs}
+use Rattle.std.proofs.Math.Nat.{mul-le-mul_right}
 use Rattle.std.proofs.lemmas.Int.{unsigned_abs-mul}
 use Rattle.std.proofs.lemmas.List.Elements.{All-drop}
 use Rattle.std.proofs.lemmas.List.Sums.{sum_by-append}
-use Rattle.definitions.specs.Words.{Extent, IsWord, IsLetter, binom, shorter}
+use Rattle.definitions.specs.Words.{Extent, IsWord, IsLetter, binom}
 use Rattle.definitions.specs.Sums.{sum_below}
 use Rattle.definitions.specs.Products.{product_term, scaled_product}
 use Rattle.definitions.specs.Moves.{Parts, move_weight}
 use Rattle.definitions.specs.Signature.{signature, limit}
-use Rattle.definitions.proofs.WordLaws.{place-lt, place-injective}
 use Rattle.definitions.proofs.SumLaws.{sum_below-same, sum_below-next}
 use Rattle.definitions.proofs.ProductLaws.{scaled_product-same}
-use Rattle.definitions.proofs.ProductBounds.{AreFactors, term-bound, sum-bound, product-bound}
+use Rattle.definitions.proofs.ProductBounds.{AreFactors, product-bound}
 use Rattle.definitions.proofs.SignatureLaws.{signature-append}
-use Rattle.scaled_tensor.specs.Tensors.{TensorValue, place, coefficient}
+use Rattle.scaled_tensor.specs.Tensors.{TensorValue, coefficient}
 use Rattle.tensor_product.specs.Sigs.{SigValue, IsSig, IsBoundedBy, StandsFor}
 use Rattle.tensor_product.specs.Extension.{prefixes_of}
-use Rattle.tensor_product.specs.Multiplication.{cut_value, cut_sum, HasCutRoom, IsProductBelow, IsProduct}
+use Rattle.tensor_product.specs.Multiplication.{cut_value, cut_sum, IsProduct}
 use Rattle.tensor_product.proofs.ExtendLaws.{word-take}
-use Rattle.tensor_product.proofs.SigLaws.{empty-word, prefixes-bounded, pow-within}
+use Rattle.tensor_product.proofs.SigLaws.{empty-word, prefixes-bounded}
 
 pub word-drop : (extent : Extent) (n : ℕ) (word : List ℕ) → IsWord extent word → IsWord extent (drop n word)
 word-drop extent n word h = record {
@@ -40,10 +38,6 @@ cut_sum-next p b word n = sum_below-next n (cut_value p b word)
 pub rest : (n : ℕ) (word : List ℕ) → take (length word - n) (drop n word) ≡ drop n word
 rest n word = take_all (length word - n) (drop n word) (omega (arith, length-drop n word))
 
-pub cut_value-is : (p : ℕ → ℤ) (b : List ℕ → ℤ) (word : List ℕ) (n ways : ℕ) (x y : ℤ) → x ≡ p n → y ≡ b (take (length word - n) (drop n word)) → ways ≡ binom (length word) n
-    → pos ways *ℤ (x *ℤ y) ≡ cut_value p b word n
-cut_value-is p b word n ways x y ex ey ew = ap₂ (λ (m : ℕ) (z : ℤ). pos m *ℤ z) ew (ap₂ ◌*ℤ◌ ex (ey ∙ ap b (rest n word)))
-
 -- one cut more
 pub cut_sum-step : (p : ℕ → ℤ) (b : List ℕ → ℤ) (word : List ℕ) (n : ℕ) (sum term : ℤ) → sum ≡ cut_sum p b word n → term ≡ cut_value p b word n → sum +ℤ term ≡ cut_sum p b word (n + 1)
 cut_sum-step p b word n sum term es et = ap₂ ◌+ℤ◌ es et ∙ sym (cut_sum-next p b word n) ∙ ap (cut_sum p b word) (sym (add-one n))
@@ -58,13 +52,6 @@ pub cut_sum-all : (a b : List ℕ → ℤ) (word : List ℕ) → cut_sum (λ i. 
 unfolding cut_sum scaled_product product_term
 cut_sum-all a b word = refl
 
-pub HasCutRoom-same : (p q : ℕ → ℤ) (b : List ℕ → ℤ) (word : List ℕ) → ((i : ℕ) → i ≤ length word → p i ≡ q i) → HasCutRoom p b word → HasCutRoom q b word
-HasCutRoom-same p q b word same room = record {
-  joined = λ i h. subst (λ (z : ℤ). unsigned_abs (z *ℤ b (drop i word)) ≤ limit) (same i h) (room.joined i h);
-  weighted = λ i h. subst (λ (z : ℤ). unsigned_abs (pos (binom (length word) i) *ℤ (z *ℤ b (drop i word))) ≤ limit) (same i h) (room.weighted i h);
-  summed = λ n h. subst (λ (z : ℤ). unsigned_abs z ≤ limit) (cut_sum-same p q b word n h same) (room.summed n h);
-}
-
 pub some-ways : (n k : ℕ) → k ≤ n → 1 ≤ binom n k
 some-ways n zero h = omega arith
 some-ways zero (suc k) h = absurd (omega arith)
@@ -74,52 +61,16 @@ some-ways (suc n) (suc k) h = omega (arith, some-ways n k (omega arith))
 pub multiple : (n : ℕ) (z : ℤ) → 1 ≤ n → unsigned_abs z ≤ unsigned_abs (pos n *ℤ z)
 multiple n z some = omega (arith, unsigned_abs-mul (pos n) z, mul-le-mul_right (unsigned_abs z) some)
 
-room-by-factors : (p : ℕ → ℤ) (b : List ℕ → ℤ) (word : List ℕ) (v m : ℕ) → AreFactors v m (length word) p (λ i. b (drop i word)) → (v + m) ^ length word ≤ limit → HasCutRoom p b word
-unfolding cut_sum
-room-by-factors p b word v m factors fits = record {
-  joined = λ i h. le_trans (multiple (binom (length word) i) (p i *ℤ b (drop i word)) (some-ways (length word) i h)) (le_trans (term-bound v m (length word) i p (λ j. b (drop j word)) factors h) fits);
-  weighted = λ i h. le_trans (term-bound v m (length word) i p (λ j. b (drop j word)) factors h) fits;
-  summed = λ n h. le_trans (sum-bound v m (length word) n p (λ j. b (drop j word)) factors h) fits;
-}
-
-suffixes-bounded : (t : TensorValue) (v : ℕ) (word : List ℕ) → IsBoundedBy t v → IsWord t.extent word
+pub suffixes-bounded : (t : TensorValue) (v : ℕ) (word : List ℕ) → IsBoundedBy t v → IsWord t.extent word
     → (i : ℕ) → i ≤ length word → unsigned_abs (coefficient t (drop i word)) ≤ v ^ (length word - i)
 suffixes-bounded t v word bounds is_word i h =
     subst (λ (n : ℕ). unsigned_abs (coefficient t (drop i word)) ≤ v ^ n) (length-drop i word) (bounds.bounded (drop i word) (word-drop t.extent i word is_word))
 
-factors-of : (a b : SigValue) (word : List ℕ) → IsSig a → IsSig b → b.tensor.extent ≡ a.tensor.extent → IsWord a.tensor.extent word
+pub factors-of : (a b : SigValue) (word : List ℕ) → IsSig a → IsSig b → b.tensor.extent ≡ a.tensor.extent → IsWord a.tensor.extent word
     → AreFactors a.weight b.weight (length word) (prefixes_of a.tensor word) (λ i. coefficient b.tensor (drop i word))
 factors-of a b word ok_a ok_b same is_word = record {
   left = prefixes-bounded a.tensor a.weight word ok_a.bounded is_word;
   right = suffixes-bounded b.tensor b.weight word ok_b.bounded (subst (λ (e : Extent). IsWord e word) (sym same) is_word);
-}
-
--- weights whose sum fits leave room at each word
-pub all-cut-room : (a b : SigValue) → IsSig a → IsSig b → b.tensor.extent ≡ a.tensor.extent → (a.weight + b.weight) ^ a.tensor.extent.depth ≤ limit
-    → (word : List ℕ) → IsWord a.tensor.extent word → HasCutRoom (prefixes_of a.tensor word) (coefficient b.tensor) word
-all-cut-room a b ok_a ok_b same fits word is_word =
-    room-by-factors (prefixes_of a.tensor word) (coefficient b.tensor) word a.weight b.weight (factors-of a b word ok_a ok_b same is_word)
-    (pow-within (a.weight + b.weight) (length word) a.tensor.extent.depth limit (omega arith) is_word.short fits)
-
--- the word at place n is written after those below
-pub product-step : (n m : ℕ) (a b now new : TensorValue) (next : List ℕ) → IsProductBelow n a b now → IsWord a.extent next → place a.extent next ≡ n → m ≡ suc n
-    → new.extent ≡ a.extent → coefficient new next ≡ scaled_product (coefficient a) (coefficient b) next
-    → ((other : List ℕ) → IsWord a.extent other → other ≢ next → coefficient new other ≡ coefficient now other) → IsProductBelow m a b new
-product-step n m a b now new next below is_next at em extent written others = record {
-  same_extent = extent;
-  products = λ word is_word h.
-      elim (cases_lt (place a.extent word) n) [
-        | inl before ↦ others word is_word (λ same. omega (arith, before, at, ap (place a.extent) same)) ∙ below.products word is_word before
-        | inr from ↦
-            let same : word ≡ next = place-injective a.extent.width word next is_word.letters is_next.letters (omega (arith, from, at, h, em)) in
-            subst (λ (w : List ℕ). coefficient new w ≡ scaled_product (coefficient a) (coefficient b) w) (sym same) written
-      ];
-}
-
-pub product-all : (n : ℕ) (a b product : TensorValue) → IsProductBelow n a b product → n ≡ shorter a.extent.width (suc a.extent.depth) → IsProduct a b product
-product-all n a b product below e = record {
-  same_extent = below.same_extent;
-  products = λ word is_word. below.products word is_word (omega (arith, e, place-lt a.extent.width a.extent.depth word is_word.letters is_word.short));
 }
 
 product-starts : (a b : List ℕ → ℤ) → a [] ≡ pos 1 → b [] ≡ pos 1 → scaled_product a b [] ≡ pos 1

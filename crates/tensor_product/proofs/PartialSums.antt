@@ -1,5 +1,5 @@
 -- The partial sums towards a coefficient: how each comes from the one before, and that none leaves the limit.
-use Rattle.std.proofs.Common.{◌≡◌, ℕ, suc, ◌+◌, ◌-◌, ◌≤◌, ◌<◌, ◌^◌, sym, ap, ap₂, ◌∙◌, subst, arith, add-one, List, [], ◌∷◌, ◌++◌, length, take, drop, length-take, length-drop, take_all, get_or, ℤ, pos, ◌+ℤ◌, ◌*ℤ◌, unsigned_abs}
+use Rattle.std.proofs.Common.{◌≡◌, ℕ, suc, ◌+◌, ◌-◌, ◌≤◌, ◌<◌, ◌^◌, sym, ap, ap₂, ◌∙◌, arith, add-one, List, [], ◌∷◌, ◌++◌, length, take, drop, length-take, length-drop, take_all, get_or, ℤ, pos, ◌+ℤ◌, ◌*ℤ◌, unsigned_abs}
 use Rattle.std.proofs.Math.Nat.{le_trans, pow-le-pow_right}
 use Rattle.std.proofs.lemmas.Int.{ints}
 use Rattle.std.proofs.lemmas.List.{take_more, drop_all, drop-append-le}
@@ -7,12 +7,11 @@ use Rattle.definitions.specs.Words.{binom}
 use Rattle.definitions.specs.Sums.{sum_below}
 use Rattle.definitions.specs.Products.{product_term, scaled_product}
 use Rattle.definitions.specs.Moves.{along, greatest}
-use Rattle.definitions.specs.Signature.{limit}
 use Rattle.definitions.proofs.Integers.{mul_assoc_ℤ, mul-one_ℤ, one-mul_ℤ}
 use Rattle.definitions.proofs.SumLaws.{sum_below-same, sum_below-mul_right, sum_below-next}
 use Rattle.definitions.proofs.MoveLaws.{along-bound}
-use Rattle.definitions.proofs.ProductBounds.{AreFactors, term-bound, sum-bound}
-use Rattle.tensor_product.specs.Extension.{partial_sum, entry_after, HasRoom}
+use Rattle.definitions.proofs.ProductBounds.{AreFactors}
+use Rattle.tensor_product.specs.Extension.{partial_sum, entry_after}
 
 along-push : (x : List ℤ) (word : List ℕ) (a : ℕ) → along x (word ++ a ∷ []) ≡ along x word *ℤ get_or x (a - 1) (pos 0)
 along-push x [] a = mul-one_ℤ (get_or x (a - 1) (pos 0)) ∙ sym (one-mul_ℤ (get_or x (a - 1) (pos 0)))
@@ -35,13 +34,13 @@ term-longer p x word j i here h =
     ∙ ap (λ (z : ℤ). pos (binom (length word) i) *ℤ z) (sym (mul_assoc_ℤ (p i) (along x (drop i (take j word))) e))
     ∙ sym (mul_assoc_ℤ (pos (binom (length word) i)) (p i *ℤ along x (drop i (take j word))) e)
 
-term-last : (p : ℕ → ℤ) (x : List ℤ) (word : List ℕ) (j : ℕ) → j ≤ length word → term p x word j j ≡ pos (binom (length word) j) *ℤ p j
+pub term-last : (p : ℕ → ℤ) (x : List ℤ) (word : List ℕ) (j : ℕ) → j ≤ length word → term p x word j j ≡ pos (binom (length word) j) *ℤ p j
 term-last p x word j h =
     let none : drop j (take j word) ≡ [] = drop_all j (take j word) (omega (arith, length-take j word)) in
     ap (λ (u : List ℕ). pos (binom (length word) j) *ℤ (p j *ℤ along x u)) none ∙ ap (λ (z : ℤ). pos (binom (length word) j) *ℤ z) (mul-one_ℤ (p j))
 
 -- the sum so far times the next entry
-grown-is : (p : ℕ → ℤ) (x : List ℤ) (word : List ℕ) (j : ℕ) → j < length word → partial_sum p x word j *ℤ entry_after x word j ≡ sum_below (suc j) (term p x word (suc j))
+pub grown-is : (p : ℕ → ℤ) (x : List ℤ) (word : List ℕ) (j : ℕ) → j < length word → partial_sum p x word j *ℤ entry_after x word j ≡ sum_below (suc j) (term p x word (suc j))
 unfolding partial_sum
 grown-is p x word j here =
     sum_below-mul_right (suc j) (term p x word j) (entry_after x word j)
@@ -75,34 +74,12 @@ unfolding partial_sum
 partial_sum-same p q x word j same =
     sum_below-same (suc j) (term p x word j) (term q x word j) (λ i h. ap (λ (z : ℤ). pos (binom (length word) i) *ℤ (z *ℤ along x (drop i (take j word)))) (same i (omega arith)))
 
-pub HasRoom-same : (p q : ℕ → ℤ) (x : List ℤ) (word : List ℕ) → ((i : ℕ) → i ≤ length word → p i ≡ q i) → HasRoom p x word → HasRoom q x word
-HasRoom-same p q x word same room = record {
-  grown = λ j h. subst (λ (z : ℤ). unsigned_abs (z *ℤ entry_after x word j) ≤ limit) (partial_sum-same p q x word j (λ i l. same i (omega arith))) (room.grown j h);
-  added = λ j h. subst (λ (z : ℤ). unsigned_abs (pos (binom (length word) (suc j)) *ℤ z) ≤ limit) (same (suc j) (omega arith)) (room.added j h);
-  summed = λ j h. subst (λ (z : ℤ). unsigned_abs z ≤ limit) (partial_sum-same p q x word j (λ i l. same i (omega arith))) (room.summed j h);
-}
-
 -- the step along no more than the rest of the word is bounded as along the rest
-factors : (p : ℕ → ℤ) (x : List ℤ) (word : List ℕ) (v j : ℕ) → 1 ≤ greatest x → j ≤ length word → ((i : ℕ) → i ≤ length word → unsigned_abs (p i) ≤ v ^ i)
+pub factors : (p : ℕ → ℤ) (x : List ℤ) (word : List ℕ) (v j : ℕ) → 1 ≤ greatest x → j ≤ length word → ((i : ℕ) → i ≤ length word → unsigned_abs (p i) ≤ v ^ i)
     → AreFactors v (greatest x) (length word) p (λ i. along x (drop i (take j word)))
 factors p x word v j some h bounds = record {
   left = bounds;
   right = λ i l.
       let within : length (drop i (take j word)) ≤ length word - i = omega (arith, length-drop i (take j word), length-take j word) in
       le_trans (along-bound x (drop i (take j word))) (pow-le-pow_right some within);
-}
-
--- a weight of at least 1 bounds each step on the way
-pub room-by-weight : (p : ℕ → ℤ) (x : List ℤ) (word : List ℕ) (v : ℕ) → 1 ≤ greatest x → ((i : ℕ) → i ≤ length word → unsigned_abs (p i) ≤ v ^ i)
-    → (v + greatest x) ^ length word ≤ limit → HasRoom p x word
-unfolding partial_sum
-room-by-weight p x word v some bounds fits = record {
-  grown = λ j h.
-      subst (λ (z : ℤ). unsigned_abs z ≤ limit) (sym (grown-is p x word j h))
-      (le_trans (sum-bound v (greatest x) (length word) (suc j) p (λ i. along x (drop i (take (suc j) word))) (factors p x word v (suc j) some (omega arith) bounds) (omega arith)) fits);
-  added = λ j h.
-      subst (λ (z : ℤ). unsigned_abs z ≤ limit) (term-last p x word (suc j) (omega arith))
-      (le_trans (term-bound v (greatest x) (length word) (suc j) p (λ i. along x (drop i (take (suc j) word))) (factors p x word v (suc j) some (omega arith) bounds) (omega arith)) fits);
-  summed = λ j h.
-      le_trans (sum-bound v (greatest x) (length word) (suc j) p (λ i. along x (drop i (take j word))) (factors p x word v j some h bounds) (omega arith)) fits;
 }

@@ -2,20 +2,21 @@
 use Rattle.std.proofs.Common.{◌≡◌, ℕ, zero, suc, ◌+◌, ◌*◌, ◌<◌, ◌≤◌, ◌^◌, sym, ap, ◌∙◌, subst, arith, List, [], ◌∷◌, ◌++◌, length, take, drop, length-take, length-drop, replicate, ℤ, unsigned_abs}
 use Rattle.std.proofs.Math.Nat.{pow-suc, pow-zero, one-mul, le_trans, pow-le-pow_right}
 use Rattle.std.proofs.lemmas.List.{get_or-replicate, length-replicate}
-use Rattle.std.proofs.lemmas.List.Elements.{All-nil}
+use Rattle.std.proofs.lemmas.List.Elements.{All-nil, All-drop, All-weaker}
 use Rattle.std.proofs.lemmas.List.Sums.{sum_by_push}
 use Rattle.definitions.specs.Words.{Extent, IsWord, IsLetter}
 use Rattle.definitions.specs.Products.{unit, scaled_product}
 use Rattle.definitions.specs.Moves.{Parts, plain, along, step, greatest, move_weight}
 use Rattle.definitions.specs.Signature.{signature, limit, Fits}
-use Rattle.definitions.proofs.MoveLaws.{along-bound, step-plain, move_weight-plain}
+use Rattle.definitions.proofs.MoveLaws.{along-bound}
+use Rattle.definitions.proofs.MoveWeights.{move_weight-plain}
+use Rattle.lie_steps.proofs.PlainSteps.{step-plain}
 use Rattle.definitions.proofs.ProductLaws.{scaled_product-same}
 use Rattle.definitions.proofs.ProductBounds.{AreFactors, product-bound}
 use Rattle.definitions.proofs.SignatureLaws.{signature-none, signature-push}
 use Rattle.scaled_tensor.specs.Tensors.{TensorValue, coefficient}
 use Rattle.tensor_product.specs.Sigs.{SigValue, IsSig, IsBoundedBy, StandsFor}
-use Rattle.tensor_product.specs.Extension.{prefixes_of, HasRoom, IsExtendedBy}
-use Rattle.tensor_product.proofs.PartialSums.{room-by-weight}
+use Rattle.tensor_product.specs.Extension.{IsExtendedBy}
 use Rattle.tensor_product.proofs.ExtendLaws.{word-take, product-empty}
 
 -- a power that fits, fits with a smaller exponent
@@ -53,12 +54,6 @@ prefixes-bounded t v word bounds is_word i h =
     let at : length (take i word) ≡ i = omega (arith, length-take i word) in
     subst (λ (n : ℕ). unsigned_abs (coefficient t (take i word)) ≤ v ^ n) at (bounds.bounded (take i word) (word-take t.extent i word is_word))
 
-pub all-room : (s : SigValue) (x : List ℤ) → IsSig s → 1 ≤ greatest x → (s.weight + greatest x) ^ s.tensor.extent.depth ≤ limit
-    → (word : List ℕ) → IsWord s.tensor.extent word → HasRoom (prefixes_of s.tensor word) x word
-all-room s x ok some fits word is_word =
-    room-by-weight (prefixes_of s.tensor word) x word s.weight some (prefixes-bounded s.tensor s.weight word ok.bounded is_word)
-    (pow-within (s.weight + greatest x) (length word) s.tensor.extent.depth limit (omega arith) is_word.short fits)
-
 pub extended-IsSig : (s : SigValue) (x : List ℤ) (new : TensorValue) (v : ℕ) → IsSig s → IsExtendedBy x s.tensor new → v ≡ s.weight + greatest x → v ^ new.extent.depth ≤ limit
     → IsSig (record { tensor = new; weight = v })
 extended-IsSig s x new v ok extended ev fits = record {
@@ -88,6 +83,7 @@ extended-stands s depth x new v moves extended ev stands = record {
       extended.products word is_old
       ∙ scaled_product-same (coefficient s.tensor) (signature moves) (along x) (step (plain depth x)) word
       (λ i h. stands.coefficients (take i word) (word-take s.tensor.extent i word is_old))
-      (λ i h. ap (λ (series : List ℕ → ℤ). series (drop i word)) (sym (step-plain depth x)))
+      (λ i h. sym (step-plain depth x (drop i word)
+      (All-weaker (IsLetter s.tensor.extent.width) (λ a. 1 ≤ a) (λ a l. l.0) (drop i word) (All-drop (IsLetter s.tensor.extent.width) i word is_old.letters))))
       ∙ sym (signature-push moves (plain depth x) word);
 }

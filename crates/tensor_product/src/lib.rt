@@ -1,6 +1,8 @@
 //! Signatures of lists of moves, exact, with their weight: extended by a row in place, and multiplied.
 #![tactic(auto)]
 
+mod concatenate;
+mod exponent;
 mod extend;
 pub mod fault;
 pub mod laws;
@@ -10,5 +12,5 @@ pub mod sig;
 mod tests;
 
 pub use fault::ProductFault;
-pub use multiply::multiply_tensors;
-pub use sig::{Overflow, Sig, exp_row, extend_row, fitting, product};
+pub use multiply::join_level;
+pub use sig::{Overflow, Sig, exp_move, exp_row, extend_row, fitting, multiply_in, product};

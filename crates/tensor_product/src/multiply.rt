@@ -1,92 +1,113 @@
-//! The product of two tensors, word by word.
-ghost use Rattle.std.specs.Prelude.{◌≡◌, ◌≢◌, ◌≤◌, ◌+ℤ◌, ◌*ℤ◌, ℕ, suc, List, length, pos, slice_index_or, unsigned_abs};
-ghost use Rattle.definitions.specs.Words.{IsWord, IsShape, shorter};
-ghost use Rattle.definitions.specs.Products.{scaled_product};
+//! The product of two tensors, level by level in place.
+ghost use Rattle.std.specs.Prelude.{◌≡◌, ◌≢◌, ◌+◌, ◌-◌, ◌^◌, ◌<◌, ◌≤◌, ◌+ℤ◌, ◌*ℤ◌, ℕ, suc, List, [], length, pos, slice_index_or, unsigned_abs};
+ghost use Rattle.definitions.specs.Words.{IsWord, IsShape};
 ghost use Rattle.definitions.specs.Signature.{limit};
 ghost use Rattle.scaled_tensor.specs.Tensors.{coefficient};
+ghost use Rattle.tensor_product.specs.Sigs.{IsBoundedBy};
 ghost use Rattle.tensor_product.specs.Extension.{prefixes_of};
-ghost use Rattle.tensor_product.specs.Multiplication.{cut_sum, HasCutRoom, IsProductBelow, IsProduct};
+ghost use Rattle.tensor_product.specs.Multiplication.{IsProduct, HasJoinRoom, JoinsAt};
 
-use crate::extend::{product_of, sum_of};
-use scaled_tensor::Tensor;
+use crate::extend::narrow_depth;
+use scaled_tensor::{Arithmetic, Narrow, Tensor, Wide};
 use words::binom;
 
-/// What one cut of a word adds to the sum.
-fn cut_term(ways: u64, prefix: i128, suffix: i128) -> i128
-    requires joined { unsigned_abs (prefix *ℤ suffix) ≤ limit }
-    requires term { unsigned_abs (pos ways *ℤ (prefix *ℤ suffix)) ≤ limit }
-    ensures { result ≡ pos ways *ℤ (prefix *ℤ suffix) }
+/// Writes a multiple of each number of a level.
+fn scale<A: Arithmetic>(level: &[i128], ways: u64, scaled: &mut [i128])
+    requires within { length level.now ≤ length scaled.old }
+    requires ways { ways ≤ A.most }
+    requires level { (i : ℕ) → i < length level.now → unsigned_abs (slice_index_or level.now i (pos 0)) ≤ A.most }
+    requires room { (i : ℕ) → i < length level.now → unsigned_abs (pos ways *ℤ slice_index_or level.now i (pos 0)) ≤ A.most }
+    ensures { (i : ℕ) → i < length level.now → slice_index_or scaled.new i (pos 0) ≡ pos ways *ℤ slice_index_or level.now i (pos 0) }
 {
-    product_of(ways as i128, product_of(prefix, suffix))
-}
-
-/// The sum over the cuts of a word, from the coefficients of its prefixes in the first factor.
-fn sum_over_cuts(prefixes: &[i128], b: &Tensor, word: &[u32]) -> i128
-    requires word { IsWord b.now.extent word.now }
-    requires short { length word.now ≤ 8 }
-    requires prefixes { length prefixes.now ≡ suc (length word.now) }
-    requires room { HasCutRoom (λ i. slice_index_or prefixes.now i (pos 0)) (coefficient b.now) word.now }
-    ensures value { result ≡ cut_sum (λ i. slice_index_or prefixes.now i (pos 0)) (coefficient b.now) word.now (suc (length word.now)) }
-    ensures bound { unsigned_abs result ≤ limit }
-{
-    let length = word.len();
-    let mut sum = 0;
-    for cut in 0..length + 1 {
-        let ways = binom(length as u32, cut as u32);
-        let suffix = b.get(&word[cut..]);
-        sum = sum_of(sum, cut_term(ways, prefixes[cut], suffix));
-    }
-    sum
-}
-
-/// Writes the coefficient of one word.
-fn multiply_word(a: &Tensor, b: &Tensor, product: &mut Tensor, word: &[u32])
-    requires word { IsWord a.now.extent word.now }
-    requires shape { IsShape a.now.extent }
-    requires same { b.now.extent ≡ a.now.extent }
-    requires room { HasCutRoom (prefixes_of a.now word.now) (coefficient b.now) word.now }
-    requires extent { product.old.extent ≡ a.now.extent }
-    ensures extent { product.new.extent ≡ a.now.extent }
-    ensures written { coefficient product.new word.now ≡ scaled_product (coefficient a.now) (coefficient b.now) word.now }
-    ensures others { (other : List ℕ) → IsWord a.now.extent other → other ≢ word.now → coefficient product.new other ≡ coefficient product.old other }
-{
-    let mut values = [0i128; 9];
-    let prefixes = &mut values[..word.len() + 1];
-    a.read_prefixes(word, prefixes);
-    let value = sum_over_cuts(prefixes, b, word);
-    product.set(word, value);
-}
-
-/// Writes the coefficients of the words of k letters.
-fn multiply_level(a: &Tensor, b: &Tensor, product: &mut Tensor, k: u32)
-    requires shape { IsShape a.now.extent }
-    requires same { b.now.extent ≡ a.now.extent }
-    requires k { k ≤ a.now.extent.depth }
-    requires room { (word : List ℕ) → IsWord a.now.extent word → HasCutRoom (prefixes_of a.now word) (coefficient b.now) word }
-    requires shorter { IsProductBelow (shorter a.now.extent.width k) a.now b.now product.old }
-    ensures { IsProductBelow (shorter a.now.extent.width (suc k)) a.now b.now product.new }
-{
-    let shape = a.shape();
-    let count = a.level(k).len() as u64;
-    let mut letters = [0u32; 8];
-    let word = &mut letters[..k as usize];
-    for index in 0..count {
-        shape.write_word(index, word);
-        multiply_word(a, b, product, word);
+    for i in 0..level.len() {
+        scaled[i] = A::product_of(ways as i128, level[i]);
     }
 }
 
-/// Writes the scaled product of two tensors into a third one of their shape: at a word the sum,
-/// over all ways to cut it in two, of the binomial of the lengths times the coefficients of the
-/// parts. No step of these sums may leave the range of a coefficient. Takes no memory.
-pub fn multiply_tensors(a: &Tensor, b: &Tensor, product: &mut Tensor)
-    requires shape { IsShape a.now.extent }
-    requires same { b.now.extent ≡ a.now.extent }
-    requires extent { product.old.extent ≡ a.now.extent }
-    requires room { (word : List ℕ) → IsWord a.now.extent word → HasCutRoom (prefixes_of a.now word) (coefficient b.now) word }
-    ensures { IsProduct a.now b.now product.new }
+/// Writes the coefficients of the words of k letters of a product in place: for each cut the outer
+/// product of the level of the prefixes, which are shorter and so as they were, and that of the
+/// suffixes. The second factor is 1 at the empty word, so that the cut after all letters is there
+/// from the start. The last parameter is scratch.
+pub fn join_level<A: Arithmetic>(a: &mut Tensor, b: &Tensor, k: u32, scaled: &mut [i128])
+    requires shape { IsShape a.old.extent }
+    requires same { b.now.extent ≡ a.old.extent }
+    requires some { 1 ≤ k }
+    requires k { k ≤ a.old.extent.depth }
+    requires starts { coefficient b.now [] ≡ pos 1 }
+    requires scaled { a.old.extent.width ^ (k - 1) ≤ length scaled.old }
+    requires room { (word : List ℕ) → IsWord a.old.extent word → length word ≡ k → HasJoinRoom A.most (prefixes_of a.old word) (coefficient b.now) word }
+    ensures { JoinsAt (λ w. length w ≡ k) (coefficient b.now) a.old a.new }
 {
-    for k in 0..a.shape().depth() + 1 {
-        multiply_level(a, b, product, k);
+    for cut in 0..k {
+        let level = a.level(cut);
+        let count = level.len();
+        let other = b.level(k - cut);
+        scale::<A>(level, binom(k, cut), scaled);
+        a.add_outer::<A>(k, cut, &scaled[..count], other);
     }
+}
+
+/// Writes all coefficients in place, those of the longest words first: those of words of more than
+/// `narrow` letters in 128 bits, the others in 64.
+fn join_levels(a: &mut Tensor, b: &Tensor, narrow: u32, scaled: &mut [i128])
+    requires shape { IsShape a.old.extent }
+    requires same { b.now.extent ≡ a.old.extent }
+    requires narrow { narrow ≤ a.old.extent.depth }
+    requires starts { coefficient b.now [] ≡ pos 1 }
+    requires scaled { a.old.extent.width ^ (a.old.extent.depth - 1) ≤ length scaled.old }
+    requires room { (word : List ℕ) → IsWord a.old.extent word → HasJoinRoom limit (prefixes_of a.old word) (coefficient b.now) word }
+    requires short { (word : List ℕ) → IsWord a.old.extent word → length word ≤ narrow → HasJoinRoom (2 ^ 63 - 1) (prefixes_of a.old word) (coefficient b.now) word }
+    ensures { IsProduct a.old b.now a.new }
+{
+    let mut k = a.shape().depth();
+    'wide: while k > narrow {
+        join_level::<Wide>(a, b, k, scaled);
+        k -= 1;
+    }
+    'short: while k > 0 {
+        join_level::<Narrow>(a, b, k, scaled);
+        k -= 1;
+    }
+}
+
+/// Writes all coefficients, with scratch for a multiple of one level: small where the levels are,
+/// since it is cleared each time.
+fn join_in_scratch(a: &mut Tensor, b: &Tensor, narrow: u32)
+    requires shape { IsShape a.old.extent }
+    requires same { b.now.extent ≡ a.old.extent }
+    requires narrow { narrow ≤ a.old.extent.depth }
+    requires starts { coefficient b.now [] ≡ pos 1 }
+    requires room { (word : List ℕ) → IsWord a.old.extent word → HasJoinRoom limit (prefixes_of a.old word) (coefficient b.now) word }
+    requires short { (word : List ℕ) → IsWord a.old.extent word → length word ≤ narrow → HasJoinRoom (2 ^ 63 - 1) (prefixes_of a.old word) (coefficient b.now) word }
+    ensures { IsProduct a.old b.now a.new }
+{
+    if a.level(a.shape().depth() - 1).len() <= 32 {
+        join_levels(a, b, narrow, &mut [0i128; 32]);
+    } else {
+        join_levels(a, b, narrow, &mut [0i128; 256]);
+    }
+}
+
+/// Multiplies a tensor by another one of its shape, in place, where both are bounded by weights: in
+/// 64 bits where these do. Nothing is multiplied by the unit, which is the one of weight 0.
+pub(crate) fn join_bounded(a: &mut Tensor, b: &Tensor, bound: u128, weight: u128)
+    requires shape { IsShape a.old.extent }
+    requires same { b.now.extent ≡ a.old.extent }
+    requires begins { coefficient a.old [] ≡ pos 1 }
+    requires starts { coefficient b.now [] ≡ pos 1 }
+    requires bounded { IsBoundedBy a.old bound }
+    requires weight { IsBoundedBy b.now weight }
+    requires fits { (bound + weight) ^ a.old.extent.depth ≤ limit }
+    requires sum { bound + weight ≤ limit }
+    ensures { IsProduct a.old b.now a.new }
+{
+    if weight == 0 {
+        return;
+    }
+    if bound == 0 {
+        a.assign(b);
+        return;
+    }
+    let narrow = narrow_depth(bound + weight, a.shape().depth());
+    join_in_scratch(a, b, narrow);
 }

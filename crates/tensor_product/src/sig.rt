@@ -1,18 +1,20 @@
 ghost use Rattle.std.specs.Prelude.{MatchResult, ◌≡◌, ◌+◌, ◌^◌, ◌<◌, ◌≤◌, ◌++◌, ◌∷◌, [], List, length, IfOk, IfErr, OnOk, OnErr};
 ghost use Rattle.definitions.specs.Words.{IsShape};
-ghost use Rattle.definitions.specs.Moves.{Parts, plain, greatest};
+ghost use Rattle.definitions.specs.Moves.{Parts, plain, greatest, weight_from};
 ghost use Rattle.definitions.specs.Signature.{limit};
+ghost use Rattle.tensor_product.specs.Exponentiation.{HasSizes, IsExponentialOf};
 ghost use Rattle.tensor_product.specs.Faults.{IsRefusedBy};
 ghost use Rattle.tensor_product.specs.Sigs.{SigValue, IsSig, StandsFor};
 
-use crate::extend::extend_all;
+use crate::exponent::exponential_of;
+use crate::extend::{extend_bounded, narrow_depth};
 use crate::fault::ProductFault;
-use crate::multiply::multiply_tensors;
+use crate::multiply::join_bounded;
 use scaled_tensor::Tensor;
 use std::alloc::Global;
 use std::marker::Model;
 use std::sync::ledger::Ledger;
-use words::{Bound, Memory, Shape, Steps, greatest_entry};
+use words::{Bound, Memory, Shape, Steps, greatest_entry, weight_of};
 
 /// A signature up to the depth of its shape: at a word of k letters the numerator over k!. Its
 /// weight is the sum of the weights of the moves; no coefficient of k letters is greater than the
@@ -87,6 +89,9 @@ impl Sig {
 pub fn fitting(shape: Shape, weight: u128) -> Result<u128, Overflow>
     ensures { MatchResult result (λ v. (v ≡ weight) × (weight ^ shape.depth ≤ limit)) (λ e. (e.0 ≡ weight) × (limit < weight ^ shape.depth)) }
 {
+    if narrow_depth(weight, shape.depth()) == shape.depth() {
+        return Ok(weight);
+    }
     if Bound::flat(shape).fits(weight) {
         Ok(weight)
     } else {
@@ -104,13 +109,13 @@ fn extend_by<L: Ledger>(s: &mut Sig, x: &[i64], added: u128, steps: &mut Steps<L
     ensures stands { (moves : List Parts) → StandsFor s.old moves → StandsFor s.new (moves ++ plain s.old.tensor.extent.depth x.now ∷ []) }
     ensures ticks { steps.new ≡ steps.old + 1 }
 {
-    extend_all(&mut s.tensor, x, added);
+    extend_bounded(&mut s.tensor, x, added, s.weight);
     s.weight += added;
     steps.tick();
 }
 
 /// Multiplies a signature by the exponential of a row, on the right: that of some moves becomes
-/// that of one move more. Takes one step, and no memory.
+/// that of one move more. Takes one unit, and no memory.
 pub fn extend_row<L: Ledger>(s: &mut Sig, x: &[i64], steps: &mut Steps<L>) -> Result<(), Overflow>
     requires { length x.now ≡ s.old.tensor.extent.width }
     ensures fits { OnOk result ((s.old.weight + greatest x.now) ^ s.old.tensor.extent.depth ≤ limit) }
@@ -127,7 +132,7 @@ pub fn extend_row<L: Ledger>(s: &mut Sig, x: &[i64], steps: &mut Steps<L>) -> Re
     Ok(())
 }
 
-/// The exponential of a row, which is the signature of that one move. Takes one step.
+/// The exponential of a row, which is the signature of that one move. Takes one unit.
 pub fn exp_row<L: Ledger>(
     alloc: Global,
     shape: Shape,
@@ -148,6 +153,58 @@ pub fn exp_row<L: Ledger>(
     Ok(sig)
 }
 
+/// The exponential of a tensor that is 0 at the empty word, and whose coefficients at k letters are at
+/// most the k-th size. Takes one unit.
+pub fn exp_move<L: Ledger>(
+    alloc: Global,
+    z: &Tensor,
+    sizes: &[u128],
+    steps: &mut Steps<L>,
+) -> Result<Sig, ProductFault>
+    requires { HasSizes z.now sizes.now }
+    ensures fits { OnOk result (weight_from z.now.extent.depth 1 sizes.now ^ z.now.extent.depth ≤ limit) }
+    ensures refused { IfErr result (λ fault. IsRefusedBy (weight_from z.now.extent.depth 1 sizes.now) z.now.extent.depth fault) }
+    ensures value { IfOk result (λ s. IsExponentialOf z.now sizes.now s) }
+    ensures ticks { OnOk result (steps.new ≡ steps.old + 1) }
+    ensures unticked { OnErr result (steps.new ≡ steps.old) }
+{
+    let weight = fitting(z.shape(), weight_of(sizes))?;
+    let tensor = exponential_of(alloc, z)?;
+    steps.tick();
+    Ok(Sig { tensor, weight })
+}
+
+/// Multiplies a signature by one of its shape, on the right, where the sum of the weights fits.
+fn join_by(s: &mut Sig, b: &Sig)
+    requires shape { IsShape s.old.tensor.extent }
+    requires same { b.now.tensor.extent ≡ s.old.tensor.extent }
+    requires sig { IsSig b.now }
+    requires fits { (s.old.weight + b.now.weight) ^ s.old.tensor.extent.depth ≤ limit }
+    ensures extent { s.new.tensor.extent ≡ s.old.tensor.extent }
+    ensures weight { s.new.weight ≡ s.old.weight + b.now.weight }
+    ensures stands { (A B : List Parts) → StandsFor s.old A → StandsFor b.now B → StandsFor s.new (A ++ B) }
+{
+    let added = b.weight();
+    join_bounded(&mut s.tensor, b.tensor(), s.weight, added);
+    s.weight += added;
+}
+
+/// Multiplies a signature by another one, on the right: that of some moves becomes that of these and
+/// then the moves of the other. Takes no memory.
+pub fn multiply_in(s: &mut Sig, b: &Sig) -> Result<(), Overflow>
+    requires { b.now.tensor.extent ≡ s.old.tensor.extent }
+    ensures fits { OnOk result ((s.old.weight + b.now.weight) ^ s.old.tensor.extent.depth ≤ limit) }
+    ensures overflow { IfErr result (λ e. (e.0 ≡ s.old.weight + b.now.weight) × (limit < e.0 ^ s.old.tensor.extent.depth)) }
+    ensures extent { s.new.tensor.extent ≡ s.old.tensor.extent }
+    ensures weight { OnOk result (s.new.weight ≡ s.old.weight + b.now.weight) }
+    ensures stands { OnOk result ((A B : List Parts) → StandsFor s.old A → StandsFor b.now B → StandsFor s.new (A ++ B)) }
+    ensures unchanged { OnErr result (s.new ≡ s.old) }
+{
+    fitting(s.tensor().shape(), s.weight() + b.weight())?;
+    join_by(s, b);
+    Ok(())
+}
+
 /// The product of the signatures of two lists of moves, which is that of the one list and then the
 /// other.
 pub fn product(alloc: Global, a: &Sig, b: &Sig) -> Result<Sig, ProductFault>
@@ -160,7 +217,7 @@ pub fn product(alloc: Global, a: &Sig, b: &Sig) -> Result<Sig, ProductFault>
 {
     let shape = a.tensor().shape();
     let weight = fitting(shape, a.weight() + b.weight())?;
-    let mut tensor = Tensor::zero(alloc, shape)?;
-    multiply_tensors(a.tensor(), b.tensor(), &mut tensor);
+    let mut tensor = a.tensor().copy(alloc)?;
+    join_bounded(&mut tensor, b.tensor(), a.weight(), b.weight());
     Ok(Sig { tensor, weight })
 }

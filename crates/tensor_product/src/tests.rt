@@ -1,6 +1,6 @@
 ghost use Rattle.std.specs.Prelude.{◌≡◌, ◌<◌, length, IfOk};
 
-use crate::{Overflow, ProductFault, Sig, exp_row, extend_row, product};
+use crate::{Overflow, ProductFault, Sig, exp_row, extend_row, multiply_in, product};
 use std::alloc::Global;
 use std::marker::Brand;
 use std::process::Abort;
@@ -87,6 +87,58 @@ fn product_of_exponentials(rt: HostRuntime) -> Result<(), Fail> {
     let both = product(rt.alloc(), &first, &second)?;
     levels_are(&rt, &both, &[&[1], &[1, 1], &[1, 2, 0, 1]]);
     assert_eq!(rt; both.weight(), 2);
+    Ok(())
+}
+
+#[test]
+fn row_after_a_product(rt: HostRuntime) -> Result<(), Fail> {
+    let shape = Shape::new(2, 2)?;
+    let first = exponential::<Brand>(rt.alloc(), shape, &[1, 0], Blank::new(1))?;
+    let second = exponential::<Brand>(rt.alloc(), shape, &[0, 1], Blank::new(1))?;
+    let mut both = product(rt.alloc(), &first, &second)?;
+    let extended = extend_rows::<Brand>(&mut both, &[&[2, 3]], Blank::new(1));
+    assert_eq!(rt; extended, Ok(()));
+    levels_are(&rt, &both, &[&[1], &[3, 4], &[9, 14, 10, 16]]);
+    assert_eq!(rt; both.weight(), 5);
+    Ok(())
+}
+
+#[test]
+fn products_in_place(rt: HostRuntime) -> Result<(), Fail> {
+    let shape = Shape::new(2, 2)?;
+    let mut sig = exponential::<Brand>(rt.alloc(), shape, &[1, 0], Blank::new(1))?;
+    let second = exponential::<Brand>(rt.alloc(), shape, &[0, 1], Blank::new(1))?;
+    let third = exponential::<Brand>(rt.alloc(), shape, &[2, 3], Blank::new(1))?;
+    assert_eq!(rt; multiply_in(&mut sig, &second), Ok(()));
+    levels_are(&rt, &sig, &[&[1], &[1, 1], &[1, 2, 0, 1]]);
+    assert_eq!(rt; multiply_in(&mut sig, &third), Ok(()));
+    levels_are(&rt, &sig, &[&[1], &[3, 4], &[9, 14, 10, 16]]);
+    assert_eq!(rt; sig.weight(), 5);
+    Ok(())
+}
+
+#[test]
+fn products_by_the_unit(rt: HostRuntime) -> Result<(), Fail> {
+    let shape = Shape::new(2, 2)?;
+    let unit = Sig::unit(rt.alloc(), shape)?;
+    let row = exponential::<Brand>(rt.alloc(), shape, &[2, 3], Blank::new(1))?;
+    let mut sig = Sig::unit(rt.alloc(), shape)?;
+    assert_eq!(rt; multiply_in(&mut sig, &row), Ok(()));
+    levels_are(&rt, &sig, &[&[1], &[2, 3], &[4, 6, 6, 9]]);
+    assert_eq!(rt; multiply_in(&mut sig, &unit), Ok(()));
+    levels_are(&rt, &sig, &[&[1], &[2, 3], &[4, 6, 6, 9]]);
+    assert_eq!(rt; sig.weight(), 3);
+    Ok(())
+}
+
+#[test]
+fn product_in_place_past_the_limit(rt: HostRuntime) -> Result<(), Fail> {
+    let shape = Shape::new(1, 8)?;
+    let mut sig = exponential::<Brand>(rt.alloc(), shape, &[60096], Blank::new(1))?;
+    let row = exponential::<Brand>(rt.alloc(), shape, &[1], Blank::new(1))?;
+    assert_eq!(rt; multiply_in(&mut sig, &row), Err(Overflow(60097)));
+    assert_eq!(rt; sig.weight(), 60096);
+    assert_eq!(rt; sig.tensor().level(1), [60096].as_slice());
     Ok(())
 }
 

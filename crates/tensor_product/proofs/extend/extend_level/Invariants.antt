@@ -1,10 +1,9 @@
-use Rattle.std.proofs.Common.{◌≡◌, length}
-use Rattle.tensor_product.specs.Extension.{ExtendsAt}
-use Rattle.tensor_product.proofs.ExtendLaws.{IsBelow}
+use Rattle.std.proofs.Common.{◌≡◌, ◌^◌}
+use Rattle.tensor_product.proofs.LevelLaws.{AreSums}
 use Rattle.tensor_product.proofs.extend.extend_level.Given as goal
 
-abbrev pub invariant-loop-index : goal.invariant-loop-index
-invariant-loop-index l = record {
-  length : length l.word ≡ l.k;
-  progress : ExtendsAt (IsBelow l.initial.tensor.extent.width l.k l.index) l.x l.initial.tensor l.tensor;
+abbrev pub invariant-loop-j : goal.invariant-loop-j
+invariant-loop-j g l = record {
+  count_is : l.count ≡ l.tensor.extent.width ^ l.j;
+  sums : AreSums l.tensor l.x l.k l.j l.sums;
 }

@@ -6,7 +6,7 @@ use Rattle.node_cache.proofs.cache.NodeCache.new.Goals as goal
 
 pub invariant_of-result : goal.invariant_of-result
 invariant_of-result c =
-    let size : non_zero_usize_get c.unwrap-capacity.result ≡ c.args.capacity =
-    subst (λ o. MatchOption o (c.args.capacity ≡ 0) (λ x. non_zero_usize_get x ≡ c.args.capacity)) c.unwrap-capacity.ensures c.new.ensures in
+    let size : non_zero_usize_get c.unwrap-capacity.result ≡ c.get.result =
+    subst (λ o. MatchOption o (c.get.result ≡ 0) (λ x. non_zero_usize_get x ≡ c.get.result)) c.unwrap-capacity.ensures c.new.ensures in
     subst (λ cache. IsCache (cache_of cache)) (sym c.in_ok-sparse.ensures)
-    (subst (λ n. IsCache (record { capacity = n; entries = [] })) (sym size) (IsCache-new c.args.capacity c.requires.some c.requires.within))
+    (subst (λ n. IsCache (record { capacity = n; entries = [] })) (sym size) (IsCache-new c.get.result c.get.ensures.range.0 c.get.ensures.range.1))
