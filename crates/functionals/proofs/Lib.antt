@@ -1,0 +1,9 @@
+pub mod Values
+pub mod Norms
+pub mod Bounds
+pub mod Collected
+pub mod ProductNorms
+pub mod Rising
+pub mod Tables
+pub mod Added
+pub mod Rooms

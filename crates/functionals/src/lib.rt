@@ -1,0 +1,23 @@
+//! Linear functionals of signatures, and their shuffle product.
+#![tactic(auto)]
+
+mod collecting;
+pub mod fault;
+pub mod functional;
+pub mod laws;
+pub mod product;
+mod shuffling;
+pub mod term;
+pub mod value;
+
+pub use fault::{FunctionalFault, ShuffleFault};
+pub use functional::Functional;
+pub use product::shuffle_product;
+pub use term::WordTerm;
+pub use value::apply;
+
+/// The greatest absolute value of a number.
+pub(crate) const LIMIT: u128 = i128::MAX as u128;
+
+#[cfg(test)]
+mod tests;
