@@ -13,20 +13,31 @@ use Rattle.decompose.proofs.Longest.{IsLongest}
 
 -- each piece so far was shorter than the power that divides the tick
 record Grows (at count : ℕ) : Type 0 where
+  -- the exponent of the power
   pub rank : ℕ
+  -- how many times the power the tick is
   pub multiple : ℕ
+  -- the power is at most the whole line of time
   pub bound : rank ≤ 32
+  -- there are at most as many pieces so far as the exponent says
   pub few : count ≤ rank
+  -- the power divides the tick
   pub aligned : at ≡ multiple * 2 ^ rank
 
 -- each piece to come is shorter than that power
 record Shrinks (at b count : ℕ) : Type 0 where
+  -- the exponent of the power
   pub rank : ℕ
+  -- how many times the power the tick is
   pub multiple : ℕ
+  -- the pieces so far, and one more of each shorter length, are at most 64
   pub few : count + rank ≤ 64
+  -- the interval ends before the next multiple of the power
   pub near : b < at + 2 ^ rank
+  -- the power divides the tick
   pub aligned : at ≡ multiple * 2 ^ rank
 
+-- either way there are at most 64 pieces
 abbrev IsShort : ℕ → ℕ → ℕ → Type 0
 IsShort at b count = Grows at count ⊎ Shrinks at b count
 
@@ -70,6 +81,7 @@ shrinks-shorter at b count node shrinks is =
       | inr le ↦ absurd (omega (arith, is.begins, is.ends, shrinks.near, pow_mono {i = shrinks.rank} {j = node.height} le))
     ]
 
+-- after a piece that is a left half the bound goes on
 short-left : (at b count : ℕ) (node : NodeValue) → IsShort at b count → IsLongest at b node → node.height < 32 → node.index ≡ 2 * (node.index / 2) → IsShort (high_of node) b (suc count)
 short-left at b count node walked is short even = inr (
     record {
@@ -83,6 +95,7 @@ short-left at b count node walked is short even = inr (
       aligned = omega arith;
     })
 
+-- so it does after one that is a right half
 short-right : (at b count : ℕ) (node : NodeValue) → IsShort at b count → IsLongest at b node → node.height < 32 → node.index ≡ 2 * (node.index / 2) + 1 → IsShort (high_of node) b (suc count)
 short-right at b count node walked is short odd =
     elim walked [
@@ -154,6 +167,7 @@ few-from a b at count (v ∷ nodes) line le adjoin each walked =
       few-from a b (high_of v) (suc count) nodes line (omega (arith, adjoin.0, low-lt-high v)) adjoin.1 (λ w m. each w (there w v nodes m)) (short-next at b count v walked line longest),
     )
 
+-- an interval within the line of time has at most 64 pieces: at most 32 while they grow, and 32 while they shrink
 pub pieces-few : (a b : ℕ) (nodes : List NodeValue) → b ≤ 2 ^ 32 → Adjoin a b nodes → IsPieces a b nodes → length nodes ≤ 64
 pieces-few a b nodes line adjoin pieces =
     omega (arith, few-from a b a 0 nodes line (omega arith) adjoin (λ v m. (pieces.members v).0 m) (short-first a b))

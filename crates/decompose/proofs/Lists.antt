@@ -11,22 +11,28 @@ use Rattle.decompose.specs.Pieces.{IsPiece, IsPieces, Adjoin}
 abbrev pub Ordered : List NodeValue → Type 0
 Ordered nodes = AllPairs (λ v w. low_of v < low_of w) nodes
 
+-- the first node is in the list
 pub here : (v : NodeValue) (nodes : List NodeValue) → Contains (v ∷ nodes) v
 here v nodes = (zero, omega arith, refl)
 
+-- what is in the rest is in the list
 pub there : (v w : NodeValue) (nodes : List NodeValue) → Contains nodes v → Contains (w ∷ nodes) v
 there v w nodes (k, lt, e) = (suc k, omega arith, e)
 
+-- what is in the list is the first or in the rest
 pub here_or_there : (v w : NodeValue) (nodes : List NodeValue) → Contains (w ∷ nodes) v → (w ≡ v) ⊎ Contains nodes v
 here_or_there v w nodes (zero, lt, e) = inl e
 here_or_there v w nodes (suc k, lt, e) = inr (k, omega arith, e)
 
+-- nothing is in the empty list
 pub not_in_none : (v : NodeValue) → Contains [] v → ⊥
 not_in_none v (k, lt, e) = omega arith
 
+-- the rest of an ordered list is ordered
 pub Ordered-tail : (v : NodeValue) (nodes : List NodeValue) → Ordered (v ∷ nodes) → Ordered nodes
 Ordered-tail v nodes up i j d lt within = up (suc i) (suc j) d (omega arith) (omega arith)
 
+-- the first node begins before each other one
 pub Ordered-head : (v w : NodeValue) (nodes : List NodeValue) → Ordered (v ∷ nodes) → Contains nodes w → low_of v < low_of w
 Ordered-head v w nodes up (k, lt, e) =
     let later : low_of v < low_of (get_or nodes k w) = up zero (suc k) w (omega arith) (omega arith) in
@@ -80,9 +86,13 @@ adjoin-ordered a b (v ∷ nodes) adjoin (suc i) (suc j) d lt within =
 
 -- a node of the list that has the tick
 pub record Found (nodes : List NodeValue) (tick : ℕ) : Type 0 where
+  -- the node
   pub node : NodeValue
+  -- it is in the list
   pub member : Contains nodes node
+  -- it begins at the tick or before
   pub after : low_of node ≤ tick
+  -- it ends after the tick
   pub before : tick < high_of node
 
 adjoin-find : (a b : ℕ) (nodes : List NodeValue) (tick : ℕ) → Adjoin a b nodes → a ≤ tick → tick < b → Found nodes tick
@@ -95,6 +105,7 @@ adjoin-find a b (v ∷ nodes) tick adjoin low high =
           record { node = found.node; member = there found.node v nodes found.member; after = found.after; before = found.before }
     ]
 
+-- one node more, where the others end
 pub adjoin-push : (a at : ℕ) (nodes : List NodeValue) (v : NodeValue) → Adjoin a at nodes → low_of v ≡ at → Adjoin a (high_of v) (nodes ++ v ∷ [])
 adjoin-push a at [] v adjoin e = (e ∙ sym adjoin, refl)
 adjoin-push a at (w ∷ nodes) v adjoin e = (adjoin.0, adjoin-push (high_of w) at nodes v adjoin.1 e)

@@ -7,18 +7,24 @@ use Rattle.decompose.specs.Pieces.{IsPiece}
 
 -- the longest node from a tick on that ends at b or before
 pub record IsLongest (at b : ℕ) (node : NodeValue) : Type 0 where
+  -- it is a node
   pub is_node : IsNode node
+  -- it begins at the tick
   pub begins : low_of node ≡ at
+  -- it ends at b or before
   pub ends : high_of node ≤ b
+  -- its parent, where it has one, doesn't lie in [at, b)
   pub longest : node.height < 32 → ¬ LiesWithin at b (parent_of node)
 
 -- no node inside [a, b) crosses the tick
 abbrev pub IsCut : ℕ → ℕ → ℕ → Type 0
 IsCut a b at = (v : NodeValue) → v.height ≤ 32 → a ≤ low_of v → low_of v < at → at < high_of v → high_of v ≤ b → ⊥
 
+-- nothing crosses the left end of the interval
 pub cut-first : (a b : ℕ) → IsCut a b a
 cut-first a b v short low before after high = omega arith
 
+-- nothing crosses the end of the longest node from a tick that nothing crosses
 pub cut-next : (a b at : ℕ) (node : NodeValue) → IsCut a b at → IsLongest at b node → IsCut a b (high_of node)
 cut-next a b at node cut is v short low before after high =
     elim (cases_lt (low_of v) at) [
@@ -36,6 +42,7 @@ cut-next a b at node cut is v short low before after high =
       ]
     ]
 
+-- the longest node from a tick that nothing crosses is maximal
 pub longest-is_piece : (a b at : ℕ) (node : NodeValue) → IsCut a b at → a ≤ at → IsLongest at b node → IsPiece a b node
 longest-is_piece a b at node cut le is =
     record {

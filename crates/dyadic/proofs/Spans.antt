@@ -14,11 +14,16 @@ twice height some =
     let e : height ≡ suc (height - 1) = omega arith in
     ap (λ (h : ℕ). 2 ^ h) e ∙ pow-suc 2 (height - 1)
 
+-- the halves of a node share its span
 pub record HalvesShare (node : NodeValue) : Type 0 where
+  -- the left half begins where the node does
   pub begins : low_of (left_of node) ≡ low_of node
+  -- it ends where the right half begins
   pub meets : high_of (left_of node) ≡ low_of (right_of node)
+  -- which ends where the node does
   pub ends : high_of (right_of node) ≡ high_of node
 
+-- this is so for each node of more than one tick
 pub halves-share : (node : NodeValue) → 0 < node.height → HalvesShare node
 halves-share node some =
     let e = twice node.height some in
@@ -62,6 +67,7 @@ meet-within a b tick longer a_low a_high b_low b_high =
       before = omega (arith, low, long, parent_low, double, mul-le-mul_right (span * 2) last);
     }
 
+-- the span of a node lies in that of its parent
 pub within-parent : (node : NodeValue) → LiesWithin (low_of (parent_of node)) (high_of (parent_of node)) node
 within-parent node =
     let span : ℕ = 2 ^ node.height in

@@ -12,9 +12,11 @@ pub record IsNode (node : NodeValue) : Type 0 where
   pub within_height : node.height ≤ 32
   pub within_line : node.index < 2 ^ (32 - node.height)
 
+-- the first tick of a node
 abbrev pub low_of : NodeValue → ℕ
 low_of node = node.index * 2 ^ node.height
 
+-- the tick after its last one
 abbrev pub high_of : NodeValue → ℕ
 high_of node = (node.index + 1) * 2 ^ node.height
 
@@ -23,12 +25,15 @@ pub record LiesWithin (a b : ℕ) (node : NodeValue) : Type 0 where
   pub after : a ≤ low_of node
   pub before : high_of node ≤ b
 
+-- the half of the earlier ticks
 abbrev pub left_of : NodeValue → NodeValue
 left_of node = record { index = 2 * node.index; height = node.height - 1 }
 
+-- the half of the later ticks
 abbrev pub right_of : NodeValue → NodeValue
 right_of node = record { index = 2 * node.index + 1; height = node.height - 1 }
 
+-- the node of twice as many ticks that has this one as a half
 abbrev pub parent_of : NodeValue → NodeValue
 parent_of node = record { index = node.index / 2; height = node.height + 1 }
 

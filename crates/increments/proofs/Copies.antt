@@ -41,9 +41,12 @@ module _ (row : RowValue) (rest : List RowValue) where
 
 -- a row comes next after these
 pub record IsNext (row : RowValue) (rows : List RowValue) : Type 0 where
+  -- no row before has its name
   pub unnamed : row_of row.name rows ≡ None
+  -- all rows before come before it in time or birth
   pub after : All (λ r. IsBefore r row) rows
 
+-- each row of the map comes next after those before it
 pub next-row : {Y S : Type 0} (rows : BTreeMap (ℕ × ℕ) RowValue) (names : HashMap (String Y) (ℕ × ℕ) S) → AreTied rows names
     → (row : RowValue) (first rest : List RowValue) → first ++ row ∷ rest ≡ values rows → IsNext row first
 next-row rows names tied row first rest whole = record {

@@ -34,9 +34,11 @@ live f name rows r is =
 
 -- the refusal of a live name comes where the name is live
 module _ {B : Type 0} (f : RowValue → B) (name : List ℕ) (rows : List RowValue) (o : Option B) (is : o ≡ option_map f (row_of name rows)) (r : Result (Unit {0}) RowFault) where
+  -- the name was found
   pub refused : is_some o ≡ true → r ≡ Err NameTaken → (r ≡ Err NameTaken) ↔ IsTrue (is_live name rows)
   refused there taken = (λ h. (live f name rows o is).0 there, λ h. taken)
 
+  -- the name was not found
   pub not_refused : is_some o ≡ false → (r ≡ Err NameTaken → ⊥) → (r ≡ Err NameTaken) ↔ IsTrue (is_live name rows)
   not_refused absent other = (λ h. absurd (other h), λ h. absurd (true≢false (sym ((live f name rows o is).1 h) ∙ absent)))
 

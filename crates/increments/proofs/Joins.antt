@@ -14,7 +14,8 @@ not-later r s (inr same) = omega (arith, same.0)
 in_order-head : (r : RowValue) (rows : List RowValue) → IsInOrder (r ∷ rows) → All (λ s. r.tick ≤ s.tick) rows
 in_order-head r rows order k d h = not-later r (get_or rows k d) (order zero (suc k) d (omega arith) (omega arith))
 
-in_order-tail : (r : RowValue) (rows : List RowValue) → IsInOrder (r ∷ rows) → IsInOrder rows
+-- the rows after the first are in order too
+pub in_order-tail : (r : RowValue) (rows : List RowValue) → IsInOrder (r ∷ rows) → IsInOrder rows
 in_order-tail r rows order i j d lt within = order (suc i) (suc j) d (omega arith) (omega arith)
 
 none-before : (a b t : ℕ) (rows : List RowValue) → b ≤ t → All (λ s. t ≤ s.tick) rows → rows_in a b rows ≡ []
@@ -28,6 +29,7 @@ in-left : (r : RowValue) (t : Bool) (left right : List RowValue) → cond t (r �
 in-left r true left right = refl
 in-left r false left right = refl
 
+-- the rows in [a, c) are those in [a, b) and then those in [b, c)
 pub rows_in-join : (a b c : ℕ) (rows : List RowValue) → IsInOrder rows → a ≤ b → b ≤ c → rows_in a c rows ≡ rows_in a b rows ++ rows_in b c rows
 rows_in-join a b c [] order ab bc = refl
 rows_in-join a b c (r ∷ rows) order ab bc =

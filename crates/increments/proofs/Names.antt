@@ -40,6 +40,7 @@ row_of-with_row name row (r ∷ rows) none =
           ])
     ]
 
+-- the same with or without a condition
 either : (b : Bool) (o : Option RowValue) → o ≡ cond b o o
 either true o = refl
 either false o = refl
@@ -66,6 +67,7 @@ row_of-without name gone (r ∷ rows) =
           ])
     ]
 
+-- two rows of one name and one place before the same others
 same-head : (name : List ℕ) (r q : RowValue) (rows moved : List RowValue) → is_named name q ≡ is_named name r → place_of q ≡ place_of r → place_in name moved ≡ place_in name rows
     → place_in name (q ∷ moved) ≡ place_in name (r ∷ rows)
 same-head name r q rows moved named place rest =

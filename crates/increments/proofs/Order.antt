@@ -28,5 +28,6 @@ in_order (r ∷ rows) sorted =
     AllPairs-cons IsBefore r rows (All-from_recursion (IsBefore r) rows (each-before r rows (sorted_head place_cmp (place_of r) (keys_of (map entry_of rows)) sorted)))
     (in_order rows (sorted_tail place_cmp (place_of r) (keys_of (map entry_of rows)) sorted))
 
+-- the rows of tied maps are in the order of tick and birth
 pub tied-in_order : {Y S : Type 0} (rows : BTreeMap (ℕ × ℕ) RowValue) (names : HashMap (String Y) (ℕ × ℕ) S) → AreTied rows names → IsInOrder (values rows)
 tied-in_order rows names tied = in_order (values rows) (subst (λ es. IsStrictlySortedBy place_cmp (keys_of es)) tied.placed tied.ordered)

@@ -23,6 +23,7 @@ use Rattle.increments.specs.Tables.{place_of, entry_of, place_cmp}
 place_total : IsTotalOrder place_cmp
 place_total = then_total (on_total (λ (p : ℕ × ℕ). p.0) nat_cmp_total) (on_total (λ (p : ℕ × ℕ). p.1) nat_cmp_total)
 
+-- equal ticks and births
 abbrev pub same_place : ℕ × ℕ → ℕ × ℕ → Bool
 same_place = eq_by_cmp place_cmp
 
@@ -35,9 +36,11 @@ cmp-before a b c d h = grind (arith, nat_tests)
 cmp-after : (a b c d : ℕ) → c ≤ a → (c ≡ a → d < b) → place_cmp (a, b) (c, d) ≡ Greater
 cmp-after a b c d h k = grind (arith, nat_tests)
 
+-- a new row comes after a row of its own tick or an earlier one
 pub passes : (row r : RowValue) (rows : List RowValue) → r.tick ≤ row.tick → with_row row (r ∷ rows) ≡ r ∷ with_row row rows
 passes row r rows h = grind (arith, nat_tests)
 
+-- it comes before a row of a later tick
 pub stops : (row r : RowValue) (rows : List RowValue) → row.tick < r.tick → with_row row (r ∷ rows) ≡ row ∷ r ∷ rows
 stops row r rows h = grind (arith, nat_tests)
 
@@ -67,9 +70,11 @@ insert_entry-row row (r ∷ rows) young =
 abbrev pub place_in : List ℕ → List RowValue → Option (ℕ × ℕ)
 place_in name rows = option_map place_of (row_of name rows)
 
+-- the names of the rows, in their order
 abbrev pub names_in : List RowValue → List (List ℕ)
 names_in rows = map (λ row. row.name) rows
 
+-- names are equal or not as an equivalence says
 pub name_laws : IsEquivalence bytes_eq
 name_laws = nat_list_eq_equiv
 
@@ -89,16 +94,20 @@ apart-place name p q (r ∷ rows) apart at =
 unnamed : (name other y : List ℕ) → bytes_eq other name ≡ true → bytes_eq other y ≡ false → bytes_eq y name ≡ false
 unnamed name other y same apart = name_laws.symm y name ∙ sym (name_laws.congr other name y same) ∙ apart
 
+-- the row of the name goes
 pub without-named : (name : List ℕ) (r : RowValue) (rows : List RowValue) → is_named name r ≡ true → without name (r ∷ rows) ≡ without name rows
 without-named name r rows h = ap (λ b. cond (not b) (r ∷ without name rows) (without name rows)) h
 
+-- another row stays
 pub without-other : (name : List ℕ) (r : RowValue) (rows : List RowValue) → is_named name r ≡ false → without name (r ∷ rows) ≡ r ∷ without name rows
 without-other name r rows h = ap (λ b. cond (not b) (r ∷ without name rows) (without name rows)) h
 
+-- the row of the name has the other move
 pub with_move-named : (name : List ℕ) (x : Parts) (r : RowValue) (rows : List RowValue) → is_named name r ≡ true
     → with_move name x (r ∷ rows) ≡ record r { x = x } ∷ with_move name x rows
 with_move-named name x r rows h = ap (λ b. cond b (record r { x = x }) r ∷ with_move name x rows) h
 
+-- another row keeps its own
 pub with_move-other : (name : List ℕ) (x : Parts) (r : RowValue) (rows : List RowValue) → is_named name r ≡ false → with_move name x (r ∷ rows) ≡ r ∷ with_move name x rows
 with_move-other name x r rows h = ap (λ b. cond b (record r { x = x }) r ∷ with_move name x rows) h
 
@@ -108,15 +117,18 @@ without-unnamed name other [] same apart = refl
 without-unnamed name other (r ∷ rows) same apart =
     without-other name r rows (unnamed name other r.name same apart.0) ∙ ap (λ (rs : List RowValue). r ∷ rs) (without-unnamed name other rows same apart.1)
 
+-- where no row has the name, each keeps its move
 pub with_move-unnamed : (name other : List ℕ) (x : Parts) (rows : List RowValue) → bytes_eq other name ≡ true → AllByRecursion (λ y. bytes_eq other y ≡ false) (names_in rows)
     → with_move name x rows ≡ rows
 with_move-unnamed name other x [] same apart = refl
 with_move-unnamed name other x (r ∷ rows) same apart =
     with_move-other name x r rows (unnamed name other r.name same apart.0) ∙ ap (λ (rs : List RowValue). r ∷ rs) (with_move-unnamed name other x rows same apart.1)
 
+-- the row of the name is the first that has it
 pub found : (name : List ℕ) (r : RowValue) (rows : List RowValue) → is_named name r ≡ true → row_of name (r ∷ rows) ≡ Some r
 found name r rows h = ap (λ b. cond b (Some r) (row_of name rows)) h
 
+-- a row of another name is passed
 pub passed : (name : List ℕ) (r : RowValue) (rows : List RowValue) → is_named name r ≡ false → row_of name (r ∷ rows) ≡ row_of name rows
 passed name r rows h = ap (λ b. cond b (Some r) (row_of name rows)) h
 
@@ -129,6 +141,7 @@ without-none name (r ∷ rows) none =
       | inr other ↦ (without-other name r rows other ∙ ap (λ (rs : List RowValue). r ∷ rs) (without-none name rows (sym (passed name r rows other) ∙ none)))
     ]
 
+-- where no row is found by the name, each keeps its move
 pub with_move-none : (name : List ℕ) (x : Parts) (rows : List RowValue) → row_of name rows ≡ None → with_move name x rows ≡ rows
 with_move-none name x [] none = refl
 with_move-none name x (r ∷ rows) none =

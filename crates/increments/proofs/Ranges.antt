@@ -13,9 +13,11 @@ use Rattle.definitions.specs.Rows.{RowValue, lies_in, rows_in}
 use Rattle.increments.specs.Tables.{AreTied, place_of, entry_of, place_cmp}
 use Rattle.increments.proofs.Places.{values_of-entries}
 
+-- a place is at tick a or later
 from-tick : (a t n : ℕ) → is_le (place_cmp (a, 0) (t, n)) ≡ nat_le a t
 from-tick a t n = grind (arith, nat_tests)
 
+-- a place is before tick b
 before-tick : (b t n : ℕ) → not (is_le (place_cmp (b, 0) (t, n))) ≡ nat_lt t b
 before-tick b t n = grind (arith, nat_tests)
 

@@ -37,7 +37,9 @@ tied-none rows names ordered empty nameless =
 
 -- what the maps have after an edit
 pub record Becomes {Y S : Type 0} (rows : BTreeMap (ℕ × ℕ) RowValue) (names : HashMap (String Y) (ℕ × ℕ) S) (list : List RowValue) : Type 0 where
+  -- the map has these rows, in this order
   pub holds : values rows ≡ list
+  -- and both maps are tied again
   pub tied : AreTied rows names
 
 module _ {Y S : Type 0} (rows new : BTreeMap (ℕ × ℕ) RowValue) (names after : HashMap (String Y) (ℕ × ℕ) S) (tied : AreTied rows names) where

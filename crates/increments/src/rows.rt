@@ -2,7 +2,9 @@ ghost use Rattle.std.specs.Prelude.{◌≡◌, ◌≤◌, ◌<◌, ◌^◌, ◌�
 ghost use Rattle.definitions.specs.Rows.{with_row, rows_in, moves_of, is_live};
 ghost use Rattle.definitions.specs.Signature.{weight};
 ghost use Rattle.definitions.specs.Moves.{IsMove};
-ghost use Rattle.increments.specs.Edits.{IsInOrder, tick_of as tick_in, with_move, without};
+ghost use Rattle.std.specs.Option.{option_map};
+ghost use Rattle.increments.specs.Edits.{IsInOrder, row_of, tick_of as tick_in, with_move, without};
+ghost use Rattle.increments.specs.Tables.{place_of as place_in_rows};
 
 use crate::fault::RowFault;
 use crate::name::Name;
@@ -139,6 +141,13 @@ impl Rows {
     {
         let place = place_at(&self.rows, &self.names, name.text())?;
         Some(place.0)
+    }
+
+    /// The tick and the birth of the row of this name, `None` where no row has it.
+    pub fn place_of(&self, name: &Name) -> Option<(u64, u64)>
+        ensures { result ≡ option_map place_in_rows (row_of name.now self.now.rows) }
+    {
+        place_at(&self.rows, &self.names, name.text())
     }
 
     /// How many rows lie in `from .. to`.

@@ -18,7 +18,9 @@ use Rattle.versions.specs.Versions.{IsEdit, edited, replayed, rows_at, current_r
 
 -- a row of a version
 pub record IsBorn (v : ℕ) (row : RowValue) : Type 0 where
+  -- its birth is at most v
   pub by : row.birth ≤ v
+  -- its tick is one of the line of time
   pub at : row.tick < 2 ^ 32
 
 later : (v : ℕ) (row : RowValue) → IsBorn v row → IsBorn (suc v) row

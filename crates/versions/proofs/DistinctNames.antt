@@ -13,6 +13,7 @@ use Rattle.versions.specs.Versions.{accepts, edited, replayed, rows_at, AreAccep
 use Rattle.versions.proofs.Replays.{AreAccepted-take}
 use Rattle.versions.proofs.Removals.{no_row}
 
+-- no two rows have one name
 abbrev pub HaveDistinctNames : List RowValue → Type 0
 HaveDistinctNames rows = IsDistinct bytes_eq (names_in rows)
 
@@ -34,5 +35,6 @@ distinct-replayed v [] rows accepted distinct = distinct
 distinct-replayed v (e ∷ edits) rows accepted distinct =
     distinct-replayed (suc v) edits (edited (suc v) e.edit rows) accepted.1 (distinct-edited (suc v) e.edit rows accepted.0.accepted distinct)
 
+-- the rows of each version have names of their own
 pub distinct-names : (log : LogValue) (v : ℕ) → IsLog log → HaveDistinctNames (rows_at log.edits v)
 distinct-names log v is = distinct-replayed 0 (take v log.edits) [] (AreAccepted-take v 0 log.edits [] is.accepted) none

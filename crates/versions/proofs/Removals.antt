@@ -30,5 +30,6 @@ removed row (r ∷ rows) none =
       ]
     ]
 
+-- a new row of a name that isn't live, removed again, leaves the rows as they were
 pub without-with_row : (row : RowValue) (rows : List RowValue) → is_live row.name rows ≡ false → without row.name (with_row row rows) ≡ rows
 without-with_row row rows free = removed row rows (no_row row.name rows free)

@@ -13,6 +13,7 @@ replayed-append v (x ∷ xs) ys rows =
     let count : suc v + length xs ≡ v + length (x ∷ xs) = omega arith in
     replayed-append (suc v) xs ys (edited (suc v) x.edit rows) ∙ ap (λ n. replayed n ys (replayed v (x ∷ xs) rows)) count
 
+-- the rows of the current version are those after all edits
 pub current_rows-replayed : (edits : List Accepted) → current_rows edits ≡ replayed 0 edits []
 current_rows-replayed edits = ap (λ (es : List Accepted). replayed 0 es []) (take-length edits)
 
@@ -23,10 +24,6 @@ current_rows-push edits e =
     current_rows-replayed (edits ++ e ∷ []) ∙ replayed-append 0 edits (e ∷ []) [] ∙ ap (λ n. edited n e.edit (replayed 0 edits [])) next
     ∙ ap (edited (length edits + 1) e.edit) (sym (current_rows-replayed edits))
 
--- the rows of a version are the current ones after so many edits
-pub current_rows-take : (edits : List Accepted) (v : ℕ) → current_rows (take v edits) ≡ rows_at edits v
-current_rows-take edits v = current_rows-replayed (take v edits)
-
 -- later edits change no earlier version
 pub rows_at-append : (edits more : List Accepted) (v : ℕ) → v ≤ length edits → rows_at (edits ++ more) v ≡ rows_at edits v
 rows_at-append edits more v h = ap (λ (es : List Accepted). replayed 0 es []) (take-append-le v edits more h)
@@ -35,6 +32,7 @@ AreAccepted-push : (v : ℕ) (xs : List Accepted) (e : Accepted) (rows : List Ro
 AreAccepted-push v [] e rows all here = (here, tt)
 AreAccepted-push v (x ∷ xs) e rows all here = (all.0, AreAccepted-push (suc v) xs e (edited (suc v) x.edit rows) all.1 here)
 
+-- the first edits of an accepted list were accepted
 pub AreAccepted-take : (n v : ℕ) (xs : List Accepted) (rows : List RowValue) → AreAccepted v xs rows → AreAccepted v (take n xs) rows
 AreAccepted-take zero v xs rows all = tt
 AreAccepted-take (suc n) v [] rows all = tt

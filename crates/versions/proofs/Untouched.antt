@@ -18,9 +18,11 @@ use Rattle.versions.proofs.DistinctNames.{HaveDistinctNames, distinct-names}
 use Rattle.versions.proofs.TouchLaws.{touched-next}
 
 module _ (a b : ℕ) where
+  -- a row outside isn't counted
   skipped : (r : RowValue) (rows : List RowValue) → lies_in a b r.tick ≡ false → rows_in a b (r ∷ rows) ≡ rows_in a b rows
   skipped r rows outside = ap (λ t. cond t (r ∷ rows_in a b rows) (rows_in a b rows)) outside
 
+  -- one row more before rows that agree
   beside : (r : RowValue) (rows others : List RowValue) → rows_in a b rows ≡ rows_in a b others → rows_in a b (r ∷ rows) ≡ rows_in a b (r ∷ others)
   beside r rows others same = ap (λ (rs : List RowValue). cond (lies_in a b r.tick) (r ∷ rs) rs) same
 

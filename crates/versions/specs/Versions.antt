@@ -64,11 +64,13 @@ pub record LogValue : Type 0 where
   pub extent : Extent
   pub edits : List Accepted
 
+-- a log that edits can have led to: each was accepted after those before it, and is one of the extent at a tick of the line of time
 pub record IsLog (log : LogValue) : Type 0 where
   pub accepted : AreAccepted 0 log.edits []
   pub within : All (λ e. IsEdit log.extent e.edit × (e.tick < 2 ^ 32)) log.edits
 
 -- ---- the reply to an edit
+-- why an edit isn't accepted, with the current version: an append because its name is live, any other because its name isn't
 abbrev pub refusal : Edit → ℕ → EditReply
 refusal (Append name tick x) version = NameTaken version
 refusal (Correct name x) version = NoRow version

@@ -6,12 +6,13 @@
 pub mod edit;
 pub mod laws;
 pub mod log;
+mod record;
 mod replay;
 pub mod stream;
 #[cfg(test)]
 mod tests;
-mod touches;
 
 pub use edit::{Edit, EditReply};
 pub use log::{Accepted, EditLog};
 pub use stream::Stream;
+pub use timeline::RowsView;

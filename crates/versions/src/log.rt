@@ -1,14 +1,18 @@
-ghost use Rattle.std.specs.Prelude.{◌≡◌, ◌+◌, ◌<◌, ◌≤◌, ◌^◌, ℕ, [], ◌∷◌, ◌++◌, length, false, OnOk, OnErr, IfOk, IfSome, IfNone};
+ghost use Rattle.std.specs.Prelude.{◌≡◌, ◌+◌, ◌-◌, ◌%◌, ◌<◌, ◌≤◌, ◌^◌, ℕ, [], ◌∷◌, ◌++◌, All, length, false, OnOk, OnErr, IfOk, IfSome, IfNone};
+ghost use Rattle.definitions.specs.Moves.{IsMove};
+ghost use Rattle.increments.specs.Edits.{IsInOrder};
 ghost use Rattle.dyadic.specs.Nodes.{low_of, high_of};
 ghost use Rattle.versions.specs.Versions.{IsLog, IsEdit, IsAccepted, IsFirstTouch, current_rows, touched, rows_at as rows_at_version, since as since_version};
+ghost use Rattle.versions.specs.Streams.{rows_of};
 
 use crate::edit::Edit;
+use crate::record::take_edit;
 use crate::replay::replay;
-use crate::touches::{first_touch, last_touch};
 use dyadic::Node;
 use increments::Rows;
 use std::alloc::Global;
 use std::marker::Model;
+use timeline::{RowsView, Timeline};
 use words::{Memory, Shape};
 
 /// An edit that was accepted, with the tick of its row.
@@ -19,30 +23,36 @@ pub struct Accepted {
 }
 
 /// The accepted edits of a stream, seen as the list of them, with the shape of their moves.
+/// Beside them stand the rows of each version and, by name too, those of the current one.
 #[derive(Drop)]
 pub struct EditLog {
     shape: Shape,
     edits: Vec<Accepted>,
+    line: Timeline,
+    rows: Rows,
 }
 
 impl Model for EditLog {
-    ghost use Rattle.versions.specs.Versions.{LogValue, IsLog};
+    ghost use Rattle.versions.specs.Versions.{LogValue};
+    ghost use Rattle.versions.specs.Pasts.{IsKept};
 
     ghost Value = { LogValue };
 
     ghost view = { λ l. record { extent = l.shape; edits = l.edits.items } };
 
-    ghost invariant = { λ l. IsLog (record { extent = l.shape; edits = l.edits.items }) };
+    ghost invariant = { λ l. IsKept (record { extent = l.shape; edits = l.edits.items }) l.line l.rows };
 }
 
 impl EditLog {
-    /// No edits of rows with moves of this shape.
+    /// No edits of rows with moves of this shape. Takes no memory.
     pub fn new(alloc: Global, shape: Shape) -> EditLog
         ensures { result ≡ record { extent = shape; edits = [] } }
     {
         EditLog {
             shape,
             edits: Vec::new(alloc),
+            line: Timeline::new(alloc),
+            rows: Rows::new(alloc, shape),
         }
     }
 
@@ -63,8 +73,16 @@ impl EditLog {
         self.edits.len() as u64
     }
 
+    /// The rows of the current version.
+    pub fn rows(&self) -> &Rows
+        ensures value { result.now ≡ rows_of self.now }
+        ensures log { IsLog self.now }
+    {
+        &self.rows
+    }
+
     /// A copy of this edit, which the current rows accept, is the last one from now on; its row has this tick.
-    /// Answers the version that it makes. Want of memory leaves the log as it was.
+    /// Answers the version that it makes. Want of memory, or of numbers for versions, leaves the log as it was.
     pub fn commit(&mut self, alloc: Global, e: &Edit, tick: u64) -> Result<u64, Memory>
         requires edit { IsEdit self.old.extent e.now }
         requires tick { tick < 2 ^ 32 }
@@ -74,8 +92,17 @@ impl EditLog {
         ensures err { OnErr result (self.new ≡ self.old) }
     {
         let version = self.edits.len() as u64 + 1;
-        let edit = e.copy(alloc)?;
-        self.edits.push(Accepted { edit, tick })?;
+        if version >= 1 << 31 {
+            return Err(Memory);
+        }
+        take_edit(
+            alloc,
+            &mut self.edits,
+            &mut self.line,
+            &mut self.rows,
+            e,
+            tick,
+        )?;
         Ok(version)
     }
 
@@ -87,12 +114,42 @@ impl EditLog {
         replay(alloc, self.shape, &self.edits[..v as usize])
     }
 
+    /// The rows of version v, by reference. Takes no memory.
+    pub fn view_at(&self, v: u64) -> RowsView<'_>
+        requires { v ≤ length self.now.edits }
+        ensures value { result ≡ rows_at_version self.now.edits v }
+        ensures order { IsInOrder (rows_at_version self.now.edits v) }
+        ensures moves { All (λ row. IsMove self.now.extent row.x) (rows_at_version self.now.edits v) }
+        ensures few { length (rows_at_version self.now.edits v) < 2 ^ 63 }
+    {
+        RowsView::of(&self.line, v)
+    }
+
+    /// The last version up to v that is a multiple of 1024, with its rows, by reference. Takes no memory.
+    pub fn rows_near(&self, v: u64) -> (u64, RowsView<'_>)
+        requires { v ≤ length self.now.edits }
+        ensures near { result.0 ≡ v - v % 1024 }
+        ensures rows { result.1 ≡ rows_at_version self.now.edits (v - v % 1024) }
+    {
+        let near = v - v % 1024;
+        (near, self.view_at(near))
+    }
+
     /// The last version from 1 to v whose edit has its tick in the node, or 0 where there is none.
     pub fn since(&self, node: Node, v: u64) -> u64
         requires { v ≤ length self.now.edits }
         ensures { result ≡ since_version (low_of node) (high_of node) self.now.edits v }
     {
-        last_touch(&self.edits, node, v)
+        self.line.since(node, v)
+    }
+
+    /// Whether the edit that makes version t has its tick in the node.
+    pub fn touches(&self, node: Node, t: u64) -> bool
+        requires some { 1 ≤ t }
+        requires within { t ≤ length self.now.edits }
+        ensures { result ≡ touched (low_of node) (high_of node) self.now.edits t }
+    {
+        node.holds(self.edits[t as usize - 1].tick)
     }
 
     /// The first version after v whose edit has its tick in the node, `None` where there is none.
@@ -101,6 +158,6 @@ impl EditLog {
         ensures some { IfSome result (λ t. IsFirstTouch (low_of node) (high_of node) self.now.edits v t) }
         ensures none { IfNone result ((t : ℕ) → v < t → t ≤ length self.now.edits → touched (low_of node) (high_of node) self.now.edits t ≡ false) }
     {
-        first_touch(&self.edits, node, v)
+        self.line.touched_since(v, node)
     }
 }

@@ -9,7 +9,7 @@ use std::alloc::Global;
 use words::{Memory, Shape};
 
 /// The rows take an edit that they accept, which makes this version.
-fn take_edit(alloc: Global, rows: &mut Rows, e: &Edit, version: u64) -> Result<(), Memory>
+fn take_next(alloc: Global, rows: &mut Rows, e: &Edit, version: u64) -> Result<(), Memory>
     requires edit { IsEdit rows.old.extent e.now }
     requires accepted { accepts rows.old.rows e.now ≡ true }
     requires births { All (λ row. row.birth < version) rows.old.rows }
@@ -39,7 +39,7 @@ pub fn replay(alloc: Global, shape: Shape, edits: &[Accepted]) -> Result<Rows, M
 {
     let mut rows = Rows::new(alloc, shape);
     for (i, accepted) in edits.iter().enumerate() {
-        take_edit(alloc, &mut rows, &accepted.edit, i as u64 + 1)?;
+        take_next(alloc, &mut rows, &accepted.edit, i as u64 + 1)?;
     }
     Ok(rows)
 }

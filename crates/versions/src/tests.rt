@@ -106,3 +106,23 @@ fn refused_edits(rt: HostRuntime) -> Result<(), Fail> {
     assert_eq!(rt; stream.version(), 1);
     Ok(())
 }
+
+#[test]
+fn rows_near_a_version(rt: HostRuntime) -> Result<(), Fail> {
+    let alloc = rt.alloc();
+    let mut stream = Stream::new(alloc, Shape::new(1, 1)?);
+    append(alloc, &mut stream, "a", 5, 1)?;
+    for entry in 0..1029 {
+        correct(alloc, &mut stream, "a", entry)?;
+    }
+    let log = stream.log();
+    for (v, near, count) in [(1023, 0, 0), (1024, 1024, 1), (1030, 1024, 1)] {
+        if v > log.len() {
+            return Err("too few versions".into());
+        }
+        let (u, rows) = log.rows_near(v);
+        assert_eq!(rt; u, near);
+        assert_eq!(rt; rows.count_in(0, 4294967296), count);
+    }
+    Ok(())
+}

@@ -1,0 +1,16 @@
+pub mod Prefixes
+pub mod Filters
+pub mod Touches
+pub mod Tries
+pub mod Changes
+pub mod Growth
+pub mod Drawings
+pub mod Joins
+pub mod Puts
+pub mod Grafts
+pub mod Readings
+pub mod Tips
+pub mod Views
+pub mod Timelines
+pub mod Ticks
+pub mod Edits
