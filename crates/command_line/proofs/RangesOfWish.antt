@@ -4,6 +4,7 @@ use Rattle.std.specs.Prelude.{if◌then◌else◌, option_map, option_and_then, 
 use Rattle.std.specs.List.{list_any, before_first, after_first}
 use Rattle.std.specs.Str.{bytes_eq}
 use Rattle.std.proofs.lemmas.Grind.{common_steps}
+use Rattle.words.specs.Capacities.{most_capacity}
 use Rattle.command_line.specs.declared.setting.Valued.{Valued}
 use Rattle.command_line.specs.declared.setting.Valued.TheVariants as valued
 use Rattle.command_line.specs.declared.setting.Setting.{Setting}
@@ -14,7 +15,7 @@ use Rattle.command_line.specs.declared.wish.Wish.TheVariants as wishes
 use Rattle.command_line.specs.Values.{number_in, order_in}
 use Rattle.command_line.specs.Settings.{Kind, valued_named, setting_at, kind_alone, kind_of, before, settings_in}
 use Rattle.command_line.specs.Settings.Kind.{Whole, Name}
-use Rattle.command_line.specs.Wishes.{order_at, capacity_at, count_at, first_or, chosen, wish_in, wish_of, IsCapacity, IsCount, IsInRange}
+use Rattle.command_line.specs.Wishes.{order_at, capacity_at, count_at, first_or, chosen, wish_in, wish_of, IsCount, IsInRange}
 
 -- a number that a value spells is in its range
 number_within : (most : ℕ) (value : List ℕ) → IfSome (number_in most value) (λ number. (1 ≤ number) × (number ≤ most))
@@ -27,7 +28,7 @@ IsFirstCount (count ∷ counts) = IsCount count
 
 -- the numbers of options, if all words were right
 abbrev IsWithin : Option (List Setting) → Type 0
-IsWithin (Some settings) = IsCapacity (first_or 4096 (filter_map capacity_at settings)) × IsFirstCount (filter_map count_at settings)
+IsWithin (Some settings) = IsFirstCount (filter_map count_at settings)
 IsWithin None = Unit {0}
 
 order_within : (order : Option (List ℕ)) (settings : Option (List Setting)) → IsWithin settings → IsWithin (before (option_map setting.Order order) settings)
@@ -35,20 +36,20 @@ order_within (Some order) (Some settings) within = within
 order_within (Some order) None within = tt
 order_within None settings within = tt
 
-cache_within : (capacity : Option ℕ) (settings : Option (List Setting)) → IfSome capacity IsCapacity → IsWithin settings → IsWithin (before (option_map setting.Cache capacity) settings)
-cache_within (Some capacity) (Some settings) is within = (is, within.1)
-cache_within (Some capacity) None is within = tt
-cache_within None settings is within = tt
+cache_within : (capacity : Option ℕ) (settings : Option (List Setting)) → IsWithin settings → IsWithin (before (option_map setting.Cache capacity) settings)
+cache_within (Some capacity) (Some settings) within = within
+cache_within (Some capacity) None within = tt
+cache_within None settings within = tt
 
 count_within : (count : Option ℕ) (settings : Option (List Setting)) → IfSome count IsCount → IsWithin settings → IsWithin (before (option_map setting.Gen count) settings)
-count_within (Some count) (Some settings) is within = (within.0, is)
+count_within (Some count) (Some settings) is within = is
 count_within (Some count) None is within = tt
 count_within None settings is within = tt
 
 -- an option with its value before others
 value_within : (name : Valued) (value : List ℕ) (settings : Option (List Setting)) → IsWithin settings → IsWithin (before (setting_at name value) settings)
 value_within valued.Order value settings within = order_within (order_in value) settings within
-value_within valued.Cache value settings within = cache_within (number_in 16384 value) settings (number_within 16384 value) within
+value_within valued.Cache value settings within = cache_within (number_in most_capacity value) settings within
 value_within valued.Gen value settings within = count_within (number_in 10000 value) settings (number_within 10000 value) within
 
 json_within : (settings : Option (List Setting)) → IsWithin settings → IsWithin (before (Some setting.Json) settings)
@@ -79,7 +80,7 @@ kind_keeps word =
 
 -- the first option of a list of words
 last_within : (kind : Kind) → KeepsWithin kind → IsWithin (elim kind [ Whole setting ↦ before setting (Some []) | Name name ↦ None ])
-last_within (Whole setting) keeps = keeps (Some []) ((omega arith, omega arith), tt)
+last_within (Whole setting) keeps = keeps (Some []) tt
 last_within (Name name) keeps = tt
 
 first_within : (kind : Kind) (next : List ℕ) (more after : Option (List Setting)) → KeepsWithin kind → IsWithin more → IsWithin after →
@@ -88,23 +89,23 @@ first_within (Whole setting) next more after keeps within within_after = keeps m
 first_within (Name name) next more after keeps within within_after = value_within name next after within_after
 
 settings_within : (words : List (List ℕ)) → IsWithin (settings_in words)
-settings_within [] = ((omega arith, omega arith), tt)
+settings_within [] = tt
 settings_within (word ∷ []) = last_within (kind_of word) (kind_keeps word)
 settings_within (word ∷ next ∷ words) =
     first_within (kind_of word) next (settings_in (next ∷ words)) (settings_in words) (kind_keeps word) (settings_within (next ∷ words)) (settings_within words)
 
 -- the wish of options
-chosen_within : (orders : List (List ℕ)) (capacity : ℕ) (written : Form) (counts : List ℕ) → IsCapacity capacity → IsFirstCount counts → IsInRange (chosen orders capacity written counts)
-chosen_within orders capacity written (count ∷ counts) within is = (is, within)
-chosen_within (order ∷ orders) capacity written [] within is = within
-chosen_within [] capacity written [] within is = within
+chosen_within : (orders : List (List ℕ)) (capacity : ℕ) (written : Form) (counts : List ℕ) → IsFirstCount counts → IsInRange (chosen orders capacity written counts)
+chosen_within orders capacity written (count ∷ counts) is = is
+chosen_within (order ∷ orders) capacity written [] is = tt
+chosen_within [] capacity written [] is = tt
 
 wish_or_refused : (test : Bool) (wish : Wish) → IsInRange wish → IsInRange (if test then wish else wishes.Refused)
 wish_or_refused true wish is = is
 wish_or_refused false wish is = tt
 
 wish_within : (settings : Option (List Setting)) → IsWithin settings → IsInRange (wish_in settings)
-wish_within (Some settings) within = wish_or_refused _ _ (chosen_within (filter_map order_at settings) _ _ (filter_map count_at settings) within.0 within.1)
+wish_within (Some settings) within = wish_or_refused _ _ (chosen_within (filter_map order_at settings) _ _ (filter_map count_at settings) within)
 wish_within None within = tt
 
 -- the wish of words

@@ -2,6 +2,7 @@
 use Rattle.std.specs.Prelude.{ℕ, ◌==◌, if◌then◌else◌, List, [], ◌∷◌, codes, Option, Some, None, option_map, option_and_then}
 use Rattle.std.specs.List.{list_any, before_first, after_first}
 use Rattle.std.specs.Str.{bytes_eq}
+use Rattle.words.specs.Capacities.{most_capacity}
 use Rattle.command_line.specs.declared.setting.Valued.{Valued}
 use Rattle.command_line.specs.declared.setting.Valued.TheVariants as valued
 use Rattle.command_line.specs.declared.setting.Setting.{Setting}
@@ -19,7 +20,7 @@ valued_named name =
 -- the option at this value, where the value is of its form and in its range
 abbrev pub setting_at : Valued → List ℕ → Option Setting
 setting_at valued.Order value = option_map setting.Order (order_in value)
-setting_at valued.Cache value = option_map setting.Cache (number_in 16384 value)
+setting_at valued.Cache value = option_map setting.Cache (number_in most_capacity value)
 setting_at valued.Gen value = option_map setting.Gen (number_in 10000 value)
 
 -- what a word is: an option with all that belongs to it, if it is right, or a name whose value is the next word

@@ -68,17 +68,11 @@ wish_in None = wishes.Refused
 abbrev pub wish_of : List (List ℕ) → Wish
 wish_of words = wish_in (settings_in words)
 
--- a capacity is from 1 to 16384
-abbrev pub IsCapacity : ℕ → Type 0
-IsCapacity capacity = (1 ≤ capacity) × (capacity ≤ 16384)
-
 -- a count of generated commands is from 1 to 10000
 abbrev pub IsCount : ℕ → Type 0
 IsCount count = (1 ≤ count) × (count ≤ 10000)
 
--- the numbers of a wish, those that it has, are in their ranges
+-- the count of a wish, where it has one, is in its range
 abbrev pub IsInRange : Wish → Type 0
-IsInRange (wishes.Gen count capacity) = IsCount count × IsCapacity capacity
-IsInRange (wishes.Given order capacity written) = IsCapacity capacity
-IsInRange (wishes.Threads capacity written) = IsCapacity capacity
-IsInRange wishes.Refused = Unit {0}
+IsInRange (wishes.Gen count capacity) = IsCount count
+IsInRange _ = Unit {0}

@@ -7,15 +7,13 @@ ghost use Rattle.command_line.specs.Wishes.{wish_in};
 
 use crate::setting::Setting;
 use crate::wish::{Form, OrderList, Wish};
-
-/// The capacity of a cache where none is given.
-pub const CAPACITY: u32 = 4096;
+use words::Capacity;
 
 /// The values of the options that were given, each at most once.
 #[derive(Drop)]
 pub(crate) struct Gathered {
     pub(crate) order: Option<OrderList>,
-    pub(crate) capacity: Option<u32>,
+    pub(crate) capacity: Option<Capacity>,
     pub(crate) form: Option<Form>,
     pub(crate) count: Option<u32>,
 }
@@ -62,7 +60,7 @@ impl Gathered {
     pub(crate) fn wish(self) -> Wish
         ensures { result ≡ wish_after self (Some []) }
     {
-        let capacity = self.capacity.unwrap_or(CAPACITY);
+        let capacity = self.capacity.unwrap_or(Capacity::usual());
         let written = self.form.unwrap_or(Form::Text);
         match (self.count, self.order) {
             (Some(n), None) if self.form.is_none() => Wish::Gen { n, capacity },

@@ -10,8 +10,7 @@ mod tests;
 mod values;
 pub mod wish;
 
-pub use gathered::CAPACITY;
 pub use read::read_words;
-pub use setting::{MOST_CAPACITY, MOST_COMMANDS};
+pub use setting::MOST_COMMANDS;
 pub use values::MOST_SESSION;
 pub use wish::{Form, OrderList, Wish};

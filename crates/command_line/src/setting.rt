@@ -3,13 +3,10 @@ ghost use Rattle.std.specs.Prelude.{◌≡◌, ◌≤◌, ◌∷◌, false, leng
 ghost use Rattle.std.specs.Str.{bytes_eq};
 ghost use Rattle.command_line.specs.Settings.{valued_named, setting_at, before, settings_in};
 
-use crate::values::{number_in, order_in};
+use crate::values::{capacity_in, number_in, order_in};
 use crate::wish::OrderList;
 use std::alloc::Global;
-use words::Memory;
-
-/// The greatest capacity of a cache.
-pub const MOST_CAPACITY: u32 = 16_384;
+use words::{Capacity, Memory};
 
 /// The most commands of a generated script.
 pub const MOST_COMMANDS: u32 = 10_000;
@@ -26,7 +23,7 @@ pub(crate) enum Valued {
 #[derive(Drop)]
 pub(crate) enum Setting {
     Order(OrderList),
-    Cache(u32),
+    Cache(Capacity),
     Json,
     Gen(u32),
 }
@@ -49,7 +46,7 @@ fn setting_at(alloc: Global, name: Valued, value: &str) -> Result<Option<Setting
 {
     Ok(match name {
         Valued::Order => order_in(alloc, value)?.map(Setting::Order),
-        Valued::Cache => number_in(value, MOST_CAPACITY).map(Setting::Cache),
+        Valued::Cache => capacity_in(value).map(Setting::Cache),
         Valued::Gen => number_in(value, MOST_COMMANDS).map(Setting::Gen),
     })
 }

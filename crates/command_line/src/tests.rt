@@ -16,13 +16,16 @@ fn words_of(alloc: Global, line: &str) -> Result<Vec<String>, Memory> {
 fn text_of(alloc: Global, wish: &Wish) -> Result<String, AllocError> {
     match wish {
         Wish::Refused => String::from_str(alloc, "refused"),
-        Wish::Gen { n, capacity } => format!(in alloc; "gen {n} {capacity}"),
+        Wish::Gen { n, capacity } => format!(in alloc; "gen {n} {}", capacity.get()),
         Wish::Given {
             order,
             capacity,
             form,
-        } => format!(in alloc; "given {:?} {capacity} {form:?}", order.list()),
-        Wish::Threads { capacity, form } => format!(in alloc; "threads {capacity} {form:?}"),
+        } => format!(in alloc; "given {:?} {} {form:?}", order.list(), capacity.get()),
+        Wish::Threads { capacity, form } => format!(in alloc;
+            "threads {} {form:?}",
+            capacity.get()
+        ),
     }
 }
 

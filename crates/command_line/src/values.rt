@@ -1,11 +1,12 @@
 //! The values of options: numbers and orders.
 ghost use Rattle.std.specs.Prelude.{◌≡◌, ◌∷◌, [], ◌<◌, length, IfOk, MatchOption, option_map};
+ghost use Rattle.words.specs.Capacities.{most_capacity};
 ghost use Rattle.command_line.specs.Values.{number_in, pieces_of, sessions_in, order_in};
 
 use crate::wish::OrderList;
 use spellings::plain_number;
 use std::alloc::Global;
-use words::Memory;
+use words::{Capacity, Memory};
 
 /// The most digits that a number has.
 const MOST_DIGITS: usize = 5;
@@ -25,6 +26,13 @@ pub(crate) fn number_in(value: &str, most: u32) -> Option<u32>
         Some(number) if number > 0 => Some(number as u32),
         _ => None,
     }
+}
+
+/// The capacity that the value spells, `None` where it spells none.
+pub(crate) fn capacity_in(value: &str) -> Option<Capacity>
+    ensures { result ≡ number_in most_capacity value.now }
+{
+    Capacity::new(number_in(value, Capacity::MOST)?)
 }
 
 // The piece before the first comma, and what follows the comma.

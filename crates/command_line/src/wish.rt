@@ -2,6 +2,7 @@
 ghost use Rattle.std.specs.Prelude.{◌≡◌};
 
 use std::marker::Model;
+use words::Capacity;
 
 /// How answers are written.
 #[derive(Debug, Clone, Copy, PartialEq, Eq, Drop)]
@@ -50,17 +51,17 @@ pub enum Wish {
     /// The generated script of `n` commands, run with a cache of this capacity, its sessions in turn, and its summary.
     Gen {
         n: u32,
-        capacity: u32,
+        capacity: Capacity,
     },
     /// The script that is read, on one thread and in this order.
     Given {
         order: OrderList,
-        capacity: u32,
+        capacity: Capacity,
         form: Form,
     },
     /// The script that is read, with a thread for each session.
     Threads {
-        capacity: u32,
+        capacity: Capacity,
         form: Form,
     },
 }

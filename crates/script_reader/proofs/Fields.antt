@@ -3,8 +3,7 @@ use Rattle.std.proofs.Common.{◌≡◌, ℕ, ◌*◌, ◌≤◌, Bool, true, fa
 use Rattle.std.specs.List.{before_first, after_first}
 use Rattle.std.proofs.lemmas.Bool.Decides.{nat_tests}
 use Rattle.spellings.specs.Numbers.{is_plain, value_of, is_denominator, plain_up_to, whole_of, tick_up_to}
-use Rattle.script_reader.specs.Lines.{is_number, is_version, is_tick, are_entries, tick_or_zero}
-use Rattle.script_reader.specs.Script.{entries_of}
+use Rattle.script_reader.specs.Fields.{is_number, is_version, is_tick, are_entries, tick_or_zero, entries_of}
 
 -- an answer that is there exactly where the test holds, and is then within a bound
 abbrev IsGiven : Bool → ℕ → ℕ → Option ℕ → Type 0

@@ -1,17 +1,23 @@
 -- A good line keeps what is kept while a script is read.
-use Rattle.std.proofs.Common.{◌≡◌, ℕ, suc, ◌+◌, ◌<◌, ◌≤◌, List, [], ◌∷◌, ◌++◌, length, sum_by, refl, ap, sym, ◌∙◌, arith, rules, All}
+use Rattle.std.proofs.Common.{◌≡◌, suc, ◌+◌, ◌<◌, ◌≤◌, if◌then◌else◌, List, [], ◌∷◌, ◌++◌, length, sum_by, Option, Some, None, IsSome, refl, ap, sym, ◌∙◌, arith, rules, All}
 use Rattle.std.proofs.lemmas.Grind.{common_steps}
+use Rattle.std.proofs.lemmas.Bool.Decides.{nat_tests}
 use Rattle.std.proofs.lemmas.List.Sums.{sum_by_push, sum_by-cons}
 use Rattle.std.proofs.lemmas.List.Elements.{All-push, All-cons, All-head, All-tail}
 use Rattle.script_reader.specs.declared.command.Command.{Command}
 use Rattle.script_reader.specs.declared.command.Command.TheVariants as commands
-use Rattle.script_reader.specs.declared.form.Line.{Line}
-use Rattle.script_reader.specs.declared.form.Line.TheVariants as lines
+use Rattle.script_reader.specs.declared.fault.Reason.{Reason}
+use Rattle.script_reader.specs.declared.said.Said.{Said}
+use Rattle.script_reader.specs.declared.said.Said.TheVariants as sayings
 use Rattle.script_reader.specs.declared.tally.Tally.{Tally}
-use Rattle.script_reader.specs.Lines.{named}
-use Rattle.script_reader.specs.Script.{onto_last, IsCommand}
-use Rattle.script_reader.specs.Reading.{HasRoom, IsNext, tally_after, sessions_after, Keeps}
-use Rattle.script_reader.proofs.Tallies.{none_is_not_some}
+use Rattle.script_reader.specs.Fields.{first_of}
+use Rattle.script_reader.specs.Limits.{named, is_query, commands_of, with_command, with_commands, with_said, limit_tests, limit_reason}
+use Rattle.script_reader.specs.Script.{onto_last, all_onto_last, sessions_with, IsCommand}
+use Rattle.script_reader.specs.Reading.{IsNext, Keeps}
+
+-- nothing is not something
+none_is_not_some : {X : Type 0} (o : Option X) → o ≡ None → IsSome o → ⊥
+none_is_not_some o e h = grind (arith, common_steps)
 
 -- a command more opens no session
 onto_last-length : (command : Command) (sessions : List (List Command)) → length (onto_last command sessions) ≡ length sessions
@@ -36,37 +42,70 @@ onto_last-all P command (session ∷ next ∷ sessions) p all =
     All-cons (All P) session (onto_last command (next ∷ sessions)) (All-head (All P) session (next ∷ sessions) all)
     (onto_last-all P command (next ∷ sessions) p (All-tail (All P) session (next ∷ sessions) all))
 
+-- ---- limits
+-- no first reason of two: no reason of either
+neither : (a b : Option Reason) → first_of (a ∷ b ∷ []) ≡ None → (a ≡ None) × (b ≡ None)
+neither None None e = (refl, refl)
+neither None (Some b) e = (refl, e)
+neither (Some a) b e = (e, absurd (none_is_not_some (Some a) e (search rules)))
+
+-- a command that meets no limit has room
+has_room : (t : Tally) (command : Command) → first_of (limit_tests (with_command t command)) ≡ None → t.commands + 1 ≤ 65536
+has_room t command e = grind (arith, nat_tests, common_steps)
+
+-- commands within the limits: the first has room, and those after it are within the limits too
+pub within_limits : (t : Tally) (command : Command) (more : List Command) → limit_reason t (command ∷ more) ≡ None → (t.commands + 1 ≤ 65536) × (limit_reason (with_command t command) more ≡ None)
+within_limits t command more e =
+    let both = neither (first_of (limit_tests (with_command t command))) (limit_reason (with_command t command) more) e in
+    (has_room t command both.0, both.1)
+
+-- ---- commands
+-- a command is at most one query
+at_most_one : (command : Command) → (if is_query command then 1 else 0) ≤ 1
+at_most_one (commands.Edit e) = omega arith
+at_most_one (commands.Ask ask) = omega arith
+
 -- a command keeps what is kept
-keeps_command : (t : Tally) (sessions : List (List Command)) (command : Command) (queries : ℕ) → Keeps t sessions → HasRoom t → IsCommand (named t.shape) command → queries ≤ t.commands + 1 → Keeps (record t { commands = t.commands + 1; queries = queries }) (onto_last command sessions)
-keeps_command t sessions command queries k room good few = record {
-  tally_kept = record { shape_first = k.tally_kept.shape_first; queries_within = few };
+pub keeps_command : (t : Tally) (sessions : List (List Command)) (command : Command) → Keeps t sessions → 0 < t.sessions → IsCommand (named t.shape) command → t.commands + 1 ≤ 65536 → Keeps (with_command t command) (onto_last command sessions)
+keeps_command t sessions command k opened good room = record {
+  tally_kept = record {
+    shape_first = k.tally_kept.shape_first;
+    queries_within = omega (arith, k.tally_kept.queries_within, at_most_one command);
+    few_commands = room;
+  };
   counted = k.counted ∙ sym (onto_last-length command sessions);
   few_sessions = k.few_sessions;
-  commands_counted = ap (λ n. n + 1) k.commands_counted ∙ sym (onto_last-total command sessions (omega (arith, k.counted, room.opened)));
-  few_commands = omega (arith, room.room);
+  commands_counted = ap (λ n. n + 1) k.commands_counted ∙ sym (onto_last-total command sessions (omega (arith, k.counted, opened)));
   shaped = k.shaped;
   commands = onto_last-all (IsCommand (named t.shape)) command sessions good k.commands;
 }
 
+-- commands within the limits keep what is kept
+keeps_commands : (t : Tally) (sessions : List (List Command)) (more : List Command) → Keeps t sessions → 0 < t.sessions → All (IsCommand (named t.shape)) more → limit_reason t more ≡ None → Keeps (with_commands t more) (all_onto_last sessions more)
+keeps_commands t sessions [] k opened good within = k
+keeps_commands t sessions (command ∷ more) k opened good within =
+    let limits = within_limits t command more within in
+    keeps_commands (with_command t command) (onto_last command sessions) more
+    (keeps_command t sessions command k opened (All-head (IsCommand (named t.shape)) command more good) limits.0)
+    opened (All-tail (IsCommand (named t.shape)) command more good) limits.1
+
 -- a good line keeps what is kept
-pub keeps_next : (t : Tally) (sessions : List (List Command)) (line : Line) → Keeps t sessions → IsNext t line → Keeps (tally_after t line) (sessions_after sessions line)
-keeps_next t sessions (lines.Shape shape) k next = record {
-  tally_kept = record { shape_first = λ h. search rules; queries_within = k.tally_kept.queries_within };
+pub keeps_next : (t : Tally) (sessions : List (List Command)) (said : Said) → Keeps t sessions → IsNext t said → limit_reason t (commands_of said) ≡ None → Keeps (with_said t said) (sessions_with sessions said)
+keeps_next t sessions (sayings.Shape shape) k next within = record {
+  tally_kept = record { shape_first = λ h. search rules; queries_within = k.tally_kept.queries_within; few_commands = k.tally_kept.few_commands };
   counted = k.counted;
   few_sessions = k.few_sessions;
   commands_counted = k.commands_counted;
-  few_commands = k.few_commands;
   shaped = next.1;
   commands = λ i d h. absurd (none_is_not_some t.shape next.0 (k.tally_kept.shape_first (omega (arith, k.counted, h))));
 }
-keeps_next t sessions lines.Session k next = record {
-  tally_kept = record { shape_first = λ h. next.0; queries_within = k.tally_kept.queries_within };
+keeps_next t sessions sayings.Session k next within = record {
+  tally_kept = record { shape_first = λ h. next.0; queries_within = k.tally_kept.queries_within; few_commands = k.tally_kept.few_commands };
   counted = ap (λ n. n + 1) k.counted ∙ sym (grind (arith, common_steps));
   few_sessions = omega (arith, next.1);
   commands_counted = omega (arith, k.commands_counted, sum_by_push length sessions []);
-  few_commands = k.few_commands;
   shaped = k.shaped;
   commands = All-push (All (IsCommand (named t.shape))) sessions [] k.commands (λ i d h. absurd (omega arith));
 }
-keeps_next t sessions (lines.Command (commands.Edit e)) k next = keeps_command t sessions (commands.Edit e) t.queries k next.0 next.1 (omega (arith, k.tally_kept.queries_within))
-keeps_next t sessions (lines.Command (commands.Ask ask)) k next = keeps_command t sessions (commands.Ask ask) (t.queries + 1) k next.0 next.1 (omega (arith, k.tally_kept.queries_within))
+keeps_next t sessions (sayings.Command command) k next within = keeps_command t sessions command k next.0 next.1 (within_limits t command [] within).0
+keeps_next t sessions (sayings.Commands commands) k next within = keeps_commands t sessions commands k next.0 next.1 within

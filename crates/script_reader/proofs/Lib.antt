@@ -1,5 +1,8 @@
 mod Examples
 mod Fields
+mod Degrees
+mod RowLines
 mod Tallies
 mod Kept
+mod Adding
 pub mod Loop

@@ -1,13 +1,15 @@
 -- Reading line by line is reading the whole list of lines.
 use Rattle.std.proofs.Common.{◌≡◌, ℕ, suc, ◌+◌, ◌<◌, ◌≤◌, true, if◌then◌else◌, List, [], ◌∷◌, ◌++◌, length, filter, Option, None, ap, sym, ◌∙◌, arith, append_assoc, add-one}
-use Rattle.spellings.specs.Lines.{lines_of, words_in, is_content}
+use Rattle.definitions.specs.Words.{Extent}
+use Rattle.spellings.specs.Lines.{lines_of, is_content}
 use Rattle.script_reader.specs.declared.command.Command.{Command}
 use Rattle.script_reader.specs.declared.fault.Reason.{Reason}
 use Rattle.script_reader.specs.declared.tally.Tally.{Tally}
-use Rattle.script_reader.specs.Lines.{keyword_in, tally, reason_of, reason_after}
-use Rattle.script_reader.specs.Script.{bad_or, first_bad}
-use Rattle.script_reader.specs.Reading.{IsLine, tally_after, sessions_after, Keeps, Takes}
-use Rattle.script_reader.proofs.Tallies.{sessions_so_far, tally_takes, sessions_take}
+use Rattle.script_reader.specs.Limits.{named, with_said}
+use Rattle.script_reader.specs.Lines.{said_in, tally, reason_of, reason_after}
+use Rattle.script_reader.specs.Script.{ScriptValue, script_with, script_of, bad_or, first_bad}
+use Rattle.script_reader.specs.Reading.{Keeps, Takes}
+use Rattle.script_reader.proofs.Tallies.{tally_takes, script_takes, extent_takes}
 use Rattle.script_reader.proofs.Kept.{keeps_next}
 
 -- after so many lines, with this rest: what is still to be found out, and what the lines before say
@@ -16,7 +18,7 @@ pub record IsReading (bytes : List ℕ) (number : ℕ) (rest : List ℕ) (t : Ta
   pub first : first_bad 0 [] (lines_of bytes) ≡ first_bad number earlier (lines_of rest)
   pub content : filter is_content (lines_of bytes) ≡ earlier ++ filter is_content (lines_of rest)
   pub tallied : tally earlier ≡ t
-  pub added : sessions_so_far earlier ≡ sessions
+  pub scripted : script_of earlier ≡ record { extent = named t.shape; sessions = sessions }
   pub kept : Keeps t sessions
   pub passed : number + length rest ≤ length bytes
 
@@ -31,10 +33,13 @@ bad_judges number earlier line lines due content is =
 filter_takes : (line : List ℕ) (lines : List (List ℕ)) → is_content line ≡ true → filter is_content (line ∷ lines) ≡ line ∷ filter is_content lines
 filter_takes line lines content = ap (λ t. if t then line ∷ filter is_content lines else filter is_content lines) content
 
+-- a script is its two parts
+script_is : {extent extent' : Extent} {sessions sessions' : List (List Command)} → extent ≡ extent' → sessions ≡ sessions' → ◌≡◌ {A = ScriptValue} (record { extent = extent; sessions = sessions }) (record { extent = extent'; sessions = sessions' })
+script_is a b = cc
+
 -- a good content line is taken
 pub takes_line : (bytes : List ℕ) (number : ℕ) (rest : List ℕ) (t : Tally) (sessions : List (List Command)) (line after : List ℕ) (t' : Tally) (sessions' : List (List Command)) → IsReading bytes number rest t sessions → lines_of rest ≡ line ∷ lines_of after → length after < length rest → is_content line ≡ true → reason_after t line ≡ None → Takes t sessions line t' sessions' → IsReading bytes (number + 1) after t' sessions'
 takes_line bytes number rest t sessions line after t' sessions' r e shorter content good took =
-    let here : IsLine (tally r.earlier) (keyword_in line) (words_in line) took.said = rw r.tallied took.good in
     record {
       earlier = r.earlier ++ line ∷ [];
       first =
@@ -43,8 +48,11 @@ takes_line bytes number rest t sessions line after t' sessions' r e shorter cont
       content =
           r.content ∙ ap (λ ls. r.earlier ++ filter is_content ls) e ∙ ap (λ ls. r.earlier ++ ls) (filter_takes line (lines_of after) content)
           ∙ sym (append_assoc r.earlier (line ∷ []) (filter is_content (lines_of after)));
-      tallied = tally_takes r.earlier line took.said here ∙ ap (λ b. tally_after b took.said) r.tallied ∙ sym took.tallied;
-      added = sessions_take r.earlier line took.said here ∙ ap (λ s. sessions_after s took.said) r.added ∙ sym took.added;
-      kept = rw (took.tallied, took.added) (keeps_next t sessions took.said r.kept took.good.next);
+      tallied = tally_takes r.earlier line took.said (ap (λ b. said_in (named b.shape) line) r.tallied ∙ took.good.says) ∙ ap (λ b. with_said b took.said) r.tallied ∙ sym took.tallied;
+      scripted =
+          script_takes r.earlier line took.said (ap (λ s. said_in s.extent line) r.scripted ∙ took.good.says)
+          ∙ ap (λ s. script_with s took.said) r.scripted
+          ∙ script_is (sym (extent_takes t took.said) ∙ ap (λ b. named b.shape) (sym took.tallied)) (sym took.added);
+      kept = rw (took.tallied, took.added) (keeps_next t sessions took.said r.kept took.good.next took.good.within);
       passed = omega (arith, r.passed, shorter);
     }

@@ -1,23 +1,19 @@
 -- The script that bytes spell, or the first bad line.
-use Rattle.std.specs.Prelude.{ℕ, suc, ◌-◌, ◌<◌, ◌≤◌, ◌^◌, ◌==◌, nat_lt, if◌then◌else◌, List, [], ◌∷◌, ◌++◌, All, map, drop, length, fold, filter, sum_by, Option, Some, None, unwrap_or, Result, Ok, Err, ℤ, pos}
+use Rattle.std.specs.Prelude.{ℕ, suc, ◌≤◌, ◌^◌, nat_lt, if◌then◌else◌, List, [], ◌∷◌, ◌++◌, All, length, fold, filter, sum_by, Option, Some, None, Result, Ok, Err}
 use Rattle.definitions.specs.Words.{Extent, IsShape}
-use Rattle.definitions.specs.Moves.{plain, IsMove}
-use Rattle.spellings.specs.Lines.{lines_of, words_in, is_content}
-use Rattle.spellings.specs.Numbers.{value_of, whole_of}
-use Rattle.script_reader.specs.declared.keyword.Keyword.{Keyword}
-use Rattle.script_reader.specs.declared.keyword.Keyword.TheVariants.{Session, Append, Correct, Remove, Sig, Log}
+use Rattle.spellings.specs.Lines.{lines_of, is_content}
 use Rattle.script_reader.specs.declared.fault.Reason.{Reason}
 use Rattle.script_reader.specs.declared.fault.Reason.TheVariants as reasons
 use Rattle.script_reader.specs.declared.fault.ScriptFault.{ScriptFault}
 use Rattle.script_reader.specs.declared.fault.ScriptFault.TheVariants.{Size, Line}
 use Rattle.script_reader.specs.declared.command.Command.{Command}
 use Rattle.script_reader.specs.declared.command.Command.TheVariants as commands
-use Rattle.versions.specs.declared.edit.Edit.TheVariants as edit
-use Rattle.versions.specs.Versions.{IsEdit}
 use Rattle.script_reader.specs.declared.command.Ask.{Ask}
-use Rattle.script_reader.specs.declared.command.Kind.{Kind}
-use Rattle.script_reader.specs.declared.command.Kind.TheVariants as kinds
-use Rattle.script_reader.specs.Lines.{field, keyword_in, extent_in, named, sessions_in, tick_or_zero, reason_of}
+use Rattle.script_reader.specs.declared.said.Said.{Said}
+use Rattle.script_reader.specs.declared.said.Said.TheVariants as sayings
+use Rattle.versions.specs.Versions.{IsEdit}
+use Rattle.script_reader.specs.Limits.{named, commands_of}
+use Rattle.script_reader.specs.Lines.{said_in, tally, reason_of}
 
 -- a shape, and the commands of each session
 pub record ScriptValue : Type 0 where
@@ -25,35 +21,9 @@ pub record ScriptValue : Type 0 where
   pub sessions : List (List Command)
 
 -- ---- what good content lines say
--- the whole numbers that words spell
-abbrev pub entries_of : List (List ℕ) → List ℤ
-entries_of words = map (λ word. unwrap_or (whole_of word) (pos 0)) words
-
--- the edit of an append line
-abbrev pub append_of : Extent → List (List ℕ) → Command
-append_of extent words = commands.Edit (edit.Append (field 1 words) (tick_or_zero (2 ^ 32 - 1) (field 2 words)) (plain extent.depth (entries_of (drop 3 words))))
-
--- the edit of a correct line
-abbrev pub correct_of : Extent → List (List ℕ) → Command
-correct_of extent words = commands.Edit (edit.Correct (field 1 words) (plain extent.depth (entries_of (drop 2 words))))
-
--- the edit of a remove line
-abbrev pub remove_of : List (List ℕ) → Command
-remove_of words = commands.Edit (edit.Remove (field 1 words))
-
--- the version that a query line names
-abbrev pub version_of : List (List ℕ) → Option ℕ
-version_of words = if length words == 4 then None else Some (value_of (field 5 words))
-
--- the query of a line
-abbrev pub ask_of : Kind → List (List ℕ) → Ask
-ask_of kind words = record {
-  kind = kind;
-  from = tick_or_zero (2 ^ 32) (field 1 words);
-  to = tick_or_zero (2 ^ 32) (field 2 words);
-  r = value_of (field 3 words);
-  version = version_of words;
-}
+-- the script before the first line
+abbrev pub empty_script : ScriptValue
+empty_script = record { extent = named None; sessions = [] }
 
 -- a command more for the last session
 abbrev pub onto_last : Command → List (List Command) → List (List Command)
@@ -61,23 +31,33 @@ onto_last command [] = []
 onto_last command (session ∷ []) = (session ++ command ∷ []) ∷ []
 onto_last command (session ∷ next ∷ sessions) = session ∷ onto_last command (next ∷ sessions)
 
--- the sessions after one content line more
-abbrev pub with_line : Extent → List (List Command) → Option Keyword → List (List ℕ) → List (List Command)
-with_line extent sessions (Some Session) words = sessions ++ [] ∷ []
-with_line extent sessions (Some Append) words = onto_last (append_of extent words) sessions
-with_line extent sessions (Some Correct) words = onto_last (correct_of extent words) sessions
-with_line extent sessions (Some Remove) words = onto_last (remove_of words) sessions
-with_line extent sessions (Some Sig) words = onto_last (commands.Ask (ask_of kinds.Sig words)) sessions
-with_line extent sessions (Some Log) words = onto_last (commands.Ask (ask_of kinds.Log words)) sessions
-with_line extent sessions _ words = sessions
+-- commands more for the last session
+abbrev pub all_onto_last : List (List Command) → List Command → List (List Command)
+all_onto_last sessions commands = fold (λ before command. onto_last command before) sessions commands
 
--- the sessions that content lines say
-abbrev pub sessions_of : Extent → List (List ℕ) → List (List Command)
-sessions_of extent lines = fold (λ sessions line. with_line extent sessions (keyword_in line) (words_in line)) [] lines
+-- the sessions after one line more
+abbrev pub sessions_with : List (List Command) → Said → List (List Command)
+sessions_with sessions (sayings.Shape shape) = sessions
+sessions_with sessions sayings.Session = sessions ++ [] ∷ []
+sessions_with sessions said = all_onto_last sessions (commands_of said)
+
+-- the extent after one line more
+abbrev pub extent_with : Extent → Said → Extent
+extent_with extent (sayings.Shape shape) = shape
+extent_with extent _ = extent
+
+-- the script after one line more
+abbrev pub script_with : ScriptValue → Said → ScriptValue
+script_with script said = record { extent = extent_with script.extent said; sessions = sessions_with script.sessions said }
+
+-- the script after what a line says, if it says something
+abbrev pub script_with_some : ScriptValue → Option Said → ScriptValue
+script_with_some script None = script
+script_with_some script (Some said) = script_with script said
 
 -- the script that content lines say
 abbrev pub script_of : List (List ℕ) → ScriptValue
-script_of lines = record { extent = named (extent_in lines); sessions = sessions_of (named (extent_in lines)) lines }
+script_of lines = fold (λ script line. script_with_some script (said_in script.extent line)) empty_script lines
 
 -- ---- the first bad line
 -- a line with this reason, or else a later one
@@ -87,7 +67,7 @@ bad_or n None later = later
 
 -- the number of the first bad line among these, which n lines precede, and its first reason
 abbrev pub first_bad : ℕ → List (List ℕ) → List (List ℕ) → Option (ℕ × Reason)
-first_bad n earlier [] = if nat_lt 0 (sessions_in earlier) then None else Some (suc n, reasons.End)
+first_bad n earlier [] = if nat_lt 0 (tally earlier).sessions then None else Some (suc n, reasons.End)
 first_bad n earlier (line ∷ lines) =
     if is_content line then bad_or (suc n) (reason_of earlier line) (first_bad (suc n) (earlier ++ line ∷ []) lines)
     else first_bad (suc n) earlier lines

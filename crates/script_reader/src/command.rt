@@ -1,4 +1,5 @@
 ghost use Rattle.std.specs.Prelude.{◌≡◌, ◌∷◌, [], ◌++◌, is_ok, if◌then◌else◌};
+ghost use Rattle.script_reader.specs.Limits.{is_query};
 
 use std::alloc::Global;
 use std::marker::Model;
@@ -31,6 +32,15 @@ pub enum Command {
     Ask(Ask),
 }
 
+impl Command {
+    /// Whether this is a query.
+    pub(crate) fn is_query(&self) -> bool
+        ensures { result ≡ is_query self.now }
+    {
+        matches!(self, Command::Ask(_))
+    }
+}
+
 /// The commands of a session, in order.
 #[derive(Drop)]
 pub struct Commands {
@@ -59,6 +69,13 @@ impl Commands {
         ensures { result.now ≡ self.now }
     {
         &self.commands
+    }
+
+    /// The commands as a vector.
+    pub(crate) fn into_vec(self) -> Vec<Command>
+        ensures { result.items ≡ self }
+    {
+        self.commands
     }
 
     /// No commands.

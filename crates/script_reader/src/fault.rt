@@ -1,3 +1,6 @@
+use std::alloc::{AllocError, AllocFailed};
+use words::Memory;
+
 /// Why a line of a script is refused. In one line the reasons are tried in this order; the fields are read from left to right.
 #[derive(Debug, Clone, Copy, PartialEq, Eq, Drop)]
 pub enum Reason {
@@ -46,4 +49,49 @@ pub enum ScriptFault {
     Line(u64, Reason),
     /// Want of memory.
     Memory,
+}
+
+/// Why a line isn't read.
+#[derive(Drop)]
+pub(crate) enum LineFault {
+    /// It is bad, for this reason.
+    Bad(Reason),
+    /// Want of memory.
+    Memory,
+}
+
+impl From<AllocError> for LineFault {
+    ghost use Rattle.std.specs.Prelude.{◌≡◌};
+    ghost use Rattle.script_reader.specs.declared.fault.LineFault.{LineFault};
+    ghost use Rattle.script_reader.specs.declared.fault.LineFault.TheVariants as faults;
+
+    ghost from_gives = { λ _ e. e ≡ faults.Memory };
+
+    fn from(_error: AllocError) -> LineFault {
+        LineFault::Memory
+    }
+}
+
+impl<T: Drop> From<AllocFailed<T>> for LineFault {
+    ghost use Rattle.std.specs.Prelude.{◌≡◌};
+    ghost use Rattle.script_reader.specs.declared.fault.LineFault.{LineFault};
+    ghost use Rattle.script_reader.specs.declared.fault.LineFault.TheVariants as faults;
+
+    ghost from_gives = { λ _ e. e ≡ faults.Memory };
+
+    fn from(_error: AllocFailed<T>) -> LineFault {
+        LineFault::Memory
+    }
+}
+
+impl From<Memory> for LineFault {
+    ghost use Rattle.std.specs.Prelude.{◌≡◌};
+    ghost use Rattle.script_reader.specs.declared.fault.LineFault.{LineFault};
+    ghost use Rattle.script_reader.specs.declared.fault.LineFault.TheVariants as faults;
+
+    ghost from_gives = { λ _ e. e ≡ faults.Memory };
+
+    fn from(_error: Memory) -> LineFault {
+        LineFault::Memory
+    }
 }

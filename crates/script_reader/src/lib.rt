@@ -2,10 +2,12 @@
 #![tactic(auto)]
 
 pub mod command;
+mod coordinates;
 pub mod fault;
 mod form;
 mod keyword;
 mod reader;
+mod said;
 pub mod script;
 mod tally;
 

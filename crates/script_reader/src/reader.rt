@@ -1,12 +1,16 @@
 //! Reading a script line by line, with running counts.
-ghost use Rattle.std.specs.Prelude.{◌≡◌, ◌≢◌, ◌+◌, ◌<◌, ◌∷◌, ◌++◌, [], nat_lt, true, false, None, Ok, Err, IfOk, IfErr, MatchOption, MatchResult};
-ghost use Rattle.script_reader.specs.Lines.{named, reason_after};
-ghost use Rattle.script_reader.specs.Script.{onto_last, parse};
-ghost use Rattle.script_reader.specs.Reading.{IsRefusal, fault_at, IsNext, HasRoom, tally_after, sessions_after, Keeps, Takes};
+ghost use Rattle.std.specs.Prelude.{◌≡◌, ◌≢◌, ◌<◌, [], nat_lt, true, false, None, Ok, IfOk, IfErr, Err, MatchOption, MatchResult};
+ghost use Rattle.script_reader.specs.Coordinates.{degree_counts};
+ghost use Rattle.script_reader.specs.Limits.{named, commands_of, nothing_said, with_command, with_commands, with_said, limit_reason};
+ghost use Rattle.script_reader.specs.Lines.{reason_after};
+ghost use Rattle.script_reader.specs.Script.{onto_last, all_onto_last, sessions_with, parse};
+ghost use Rattle.script_reader.specs.Reading.{IsRefusal, fault_at, IsNext, Keeps, Takes};
 
 use crate::command::{Command, Commands};
-use crate::fault::{Reason, ScriptFault};
-use crate::form::{Line, LineFault, read_line};
+use crate::coordinates::counts_of;
+use crate::fault::{LineFault, Reason, ScriptFault};
+use crate::form::read_line;
+use crate::said::Said;
 use crate::script::Script;
 use crate::tally::Tally;
 use spellings::{is_content, split_line};
@@ -20,6 +24,8 @@ const MOST_BYTES: usize = 4_194_304;
 #[derive(Drop)]
 struct Reader {
     tally: Tally,
+    /// How many coordinates the shape has up to each degree.
+    counts: Vec<usize>,
     sessions: Vec<Commands>,
 }
 
@@ -36,7 +42,8 @@ fn fault_at(number: u64, fault: LineFault) -> ScriptFault
 impl Reader {
     /// Before the first line.
     fn new(alloc: Global) -> Reader
-        ensures tally { result.tally ≡ record { shape = None; sessions = 0; commands = 0; queries = 0 } }
+        ensures tally { result.tally ≡ nothing_said }
+        ensures counts { result.counts.items ≡ [] }
         ensures sessions { result.sessions.items ≡ [] }
     {
         Reader {
@@ -46,6 +53,7 @@ impl Reader {
                 commands: 0,
                 queries: 0,
             },
+            counts: Vec::new(alloc),
             sessions: Vec::new(alloc),
         }
     }
@@ -53,7 +61,8 @@ impl Reader {
     /// Opens the next session.
     fn open_session(&mut self, alloc: Global) -> Result<(), Memory>
         requires { self.old.tally.sessions < 16 }
-        ensures { IfOk result (λ _. (self.new.tally ≡ tally_after self.old.tally Line.Session) × (self.new.sessions.items ≡ self.old.sessions.items ++ [] ∷ [])) }
+        ensures added { IfOk result (λ _. (self.new.tally ≡ with_said self.old.tally Said.Session) × (self.new.sessions.items ≡ sessions_with self.old.sessions.items Said.Session)) }
+        ensures counts { self.new.counts ≡ self.old.counts }
     {
         self.sessions.push(Commands::new(alloc))?;
         self.tally.sessions += 1;
@@ -62,45 +71,62 @@ impl Reader {
 
     /// Adds a command to the last session.
     fn add_command(&mut self, command: Command) -> Result<(), Memory>
-        requires room { HasRoom self.old.tally }
+        requires opened { 0 < self.old.tally.sessions }
         requires keeps { Keeps self.old.tally self.old.sessions.items }
-        ensures { IfOk result (λ _. (self.new.tally ≡ tally_after self.old.tally (Line.Command command)) × (self.new.sessions.items ≡ onto_last command self.old.sessions.items)) }
+        ensures added { IfOk result (λ _. (self.new.tally ≡ with_command self.old.tally command) × (self.new.sessions.items ≡ onto_last command self.old.sessions.items)) }
+        ensures counts { self.new.counts ≡ self.old.counts }
     {
-        let is_query = matches!(&command, Command::Ask(_));
+        self.tally = self.tally.with_command(&command);
         let last = self.sessions.len() - 1;
         let session = &mut self.sessions[last];
-        session.push(command)?;
-        self.tally.commands += 1;
-        if is_query {
-            self.tally.queries += 1;
+        session.push(command)
+    }
+
+    /// Adds commands to the last session, in order.
+    fn add_commands(&mut self, commands: Commands) -> Result<(), Memory>
+        requires next { IsNext self.old.tally (Said.Commands commands) }
+        requires within { limit_reason self.old.tally commands ≡ None }
+        requires keeps { Keeps self.old.tally self.old.sessions.items }
+        ensures added { IfOk result (λ _. (self.new.tally ≡ with_commands self.old.tally commands) × (self.new.sessions.items ≡ all_onto_last self.old.sessions.items commands)) }
+        ensures counts { self.new.counts ≡ self.old.counts }
+    {
+        for command in commands.into_vec() {
+            self.add_command(command)?;
         }
         Ok(())
     }
 
     /// Adds what a good line says.
-    fn add(&mut self, alloc: Global, line: Line) -> Result<(), Memory>
-        requires next { IsNext self.old.tally line }
+    fn add(&mut self, alloc: Global, said: Said) -> Result<(), Memory>
+        requires next { IsNext self.old.tally said }
+        requires within { limit_reason self.old.tally (commands_of said) ≡ None }
         requires keeps { Keeps self.old.tally self.old.sessions.items }
-        ensures { IfOk result (λ _. (self.new.tally ≡ tally_after self.old.tally line) × (self.new.sessions.items ≡ sessions_after self.old.sessions.items line)) }
+        requires counted { self.old.counts.items ≡ degree_counts (named self.old.tally.shape) }
+        ensures added { IfOk result (λ _. (self.new.tally ≡ with_said self.old.tally said) × (self.new.sessions.items ≡ sessions_with self.old.sessions.items said)) }
+        ensures counted { IfOk result (λ _. self.new.counts.items ≡ degree_counts (named self.new.tally.shape)) }
     {
-        match line {
-            Line::Shape(shape) => {
+        match said {
+            Said::Shape(shape) => {
+                self.counts = counts_of(alloc, shape)?;
                 self.tally.shape = Some(shape);
                 Ok(())
             }
-            Line::Session => self.open_session(alloc),
-            Line::Command(command) => self.add_command(command),
+            Said::Session => self.open_session(alloc),
+            Said::Command(command) => self.add_command(command),
+            Said::Commands(commands) => self.add_commands(commands),
         }
     }
 
     /// Reads the next content line.
     fn read(&mut self, alloc: Global, bytes: &[u8]) -> Result<(), LineFault>
-        requires { Keeps self.old.tally self.old.sessions.items }
-        ensures { let due = reason_after self.old.tally bytes.now in
+        requires keeps { Keeps self.old.tally self.old.sessions.items }
+        requires counted { self.old.counts.items ≡ degree_counts (named self.old.tally.shape) }
+        ensures read { let due = reason_after self.old.tally bytes.now in
             MatchResult result (λ _. (due ≡ None) × Takes self.old.tally self.old.sessions.items bytes.now self.new.tally self.new.sessions.items) (λ e. IsRefusal due e) }
+        ensures counted { IfOk result (λ _. self.new.counts.items ≡ degree_counts (named self.new.tally.shape)) }
     {
-        let line = read_line(alloc, &self.tally, bytes)?;
-        self.add(alloc, line)?;
+        let said = read_line(alloc, &self.tally, &self.counts, bytes)?;
+        self.add(alloc, said)?;
         Ok(())
     }
 

@@ -16,41 +16,44 @@ fn repeated(alloc: Global, head: &str, line: &str, count: u32) -> Result<Vec<u8>
     Ok(bytes)
 }
 
+/// Scripts whose fault is in their first lines, with the bad line and its reason.
+const FIRST_LINES: [(&str, u64, Reason); 31] = [
+    ("", 1, Reason::End),
+    ("\n", 2, Reason::End),
+    ("\r", 2, Reason::End),
+    ("shape 2 2", 2, Reason::End),
+    ("# no session\n\nshape 2 2\n#\n", 5, Reason::End),
+    ("shape 2 2\u{1}", 1, Reason::Byte),
+    ("shape\r 2 2", 1, Reason::Byte),
+    ("shape 2 2\r\r\n", 1, Reason::Byte),
+    ("\u{7f}shapes", 1, Reason::Byte),
+    ("shapes 2 2", 1, Reason::Keyword),
+    ("\nShape 2 2", 2, Reason::Keyword),
+    ("session 1", 1, Reason::Place),
+    ("log", 1, Reason::Place),
+    ("shape 2 2\n\nshape", 3, Reason::Place),
+    ("shape 2 2\nappend a", 2, Reason::Place),
+    ("shape 2 2\ncorrect a", 2, Reason::Place),
+    ("shape x y z", 1, Reason::Fields),
+    ("shape x", 1, Reason::Fields),
+    ("shape 2 x", 1, Reason::Number),
+    ("shape 4294967296 2", 1, Reason::Number),
+    ("shape 13 x", 1, Reason::Number),
+    ("shape 4294967295 2", 1, Reason::Width),
+    ("shape 13 2", 1, Reason::Width),
+    ("shape 0 9", 1, Reason::Width),
+    ("shape 2 9", 1, Reason::Depth),
+    ("shape 2 0", 1, Reason::Depth),
+    ("shape 7 4", 1, Reason::Words),
+    ("shape 2 2\nsession", 2, Reason::Fields),
+    ("shape 2 2\nsession x", 2, Reason::Number),
+    ("shape 2 2\nsession 0", 2, Reason::Session),
+    ("shape 2 2\nsession 2\nshape", 2, Reason::Session),
+];
+
 #[test]
 fn first_lines(rt: HostRuntime) {
-    for (text, line, reason) in [
-        ("", 1, Reason::End),
-        ("\n", 2, Reason::End),
-        ("\r", 2, Reason::End),
-        ("shape 2 2", 2, Reason::End),
-        ("# no session\n\nshape 2 2\n#\n", 5, Reason::End),
-        ("shape 2 2\u{1}", 1, Reason::Byte),
-        ("shape\r 2 2", 1, Reason::Byte),
-        ("shape 2 2\r\r\n", 1, Reason::Byte),
-        ("\u{7f}shapes", 1, Reason::Byte),
-        ("shapes 2 2", 1, Reason::Keyword),
-        ("\nShape 2 2", 2, Reason::Keyword),
-        ("session 1", 1, Reason::Place),
-        ("log", 1, Reason::Place),
-        ("shape 2 2\n\nshape", 3, Reason::Place),
-        ("shape 2 2\nappend a", 2, Reason::Place),
-        ("shape 2 2\ncorrect a", 2, Reason::Place),
-        ("shape x y z", 1, Reason::Fields),
-        ("shape x", 1, Reason::Fields),
-        ("shape 2 x", 1, Reason::Number),
-        ("shape 4294967296 2", 1, Reason::Number),
-        ("shape 13 x", 1, Reason::Number),
-        ("shape 4294967295 2", 1, Reason::Width),
-        ("shape 13 2", 1, Reason::Width),
-        ("shape 0 9", 1, Reason::Width),
-        ("shape 2 9", 1, Reason::Depth),
-        ("shape 2 0", 1, Reason::Depth),
-        ("shape 7 4", 1, Reason::Words),
-        ("shape 2 2\nsession", 2, Reason::Fields),
-        ("shape 2 2\nsession x", 2, Reason::Number),
-        ("shape 2 2\nsession 0", 2, Reason::Session),
-        ("shape 2 2\nsession 2\nshape", 2, Reason::Session),
-    ] {
+    for (text, line, reason) in FIRST_LINES {
         assert_eq!(rt;
             fault_of(rt.alloc(), text.as_bytes()),
             Some(ScriptFault::Line(line, reason)),
@@ -59,44 +62,54 @@ fn first_lines(rt: HostRuntime) {
     }
 }
 
+/// Lines after `shape 2 2` and `session 1`, with the bad line of the script and its reason.
+const COMMANDS: [(&str, u64, Reason); 41] = [
+    ("appends a 0 2 3", 3, Reason::Keyword),
+    ("session", 3, Reason::Fields),
+    ("session 1", 3, Reason::Session),
+    ("session 3", 3, Reason::Session),
+    ("session x", 3, Reason::Number),
+    ("correct a 2", 3, Reason::Fields),
+    ("correct 1 - -", 3, Reason::Name),
+    ("correct a 2 -", 3, Reason::Number),
+    ("remove", 3, Reason::Fields),
+    ("remove a b", 3, Reason::Fields),
+    ("remove 1", 3, Reason::Name),
+    ("log x", 3, Reason::Fields),
+    ("log 0 1 x", 3, Reason::Number),
+    ("log 2 1 0 at 1", 3, Reason::Interval),
+    ("sig x y z at x", 3, Reason::Time),
+    ("sig 2 1 0 at 18446744073709551616", 3, Reason::Number),
+    ("sig 2 1 0 at 18446744073709551615", 3, Reason::Interval),
+    ("sig 0 1 0 in 0", 3, Reason::Fields),
+    ("sig 0 1 0 at", 3, Reason::Fields),
+    ("append a 0 2", 3, Reason::Fields),
+    ("append 1 x 2", 3, Reason::Fields),
+    ("append 1 x 2 -", 3, Reason::Name),
+    ("append a x 2 -", 3, Reason::Time),
+    ("append a 65536 2 3", 3, Reason::Time),
+    ("append a 0 2 -", 3, Reason::Number),
+    ("append a 0 2 9223372036854775808", 3, Reason::Number),
+    ("sig x 0 x", 3, Reason::Time),
+    ("sig 0 65537 17", 3, Reason::Time),
+    ("sig 2 1 x", 3, Reason::Number),
+    ("sig 2 1 0", 3, Reason::Interval),
+    ("sig 2 1 17", 3, Reason::Interval),
+    ("sig 0 65536 17", 3, Reason::Resolution),
+    ("# x\n \nsig 0 1 17\nappend a 0 2", 5, Reason::Resolution),
+    ("append a 0 2 3\nappend a 0 2\nsig 2 1 0", 4, Reason::Fields),
+    ("append 1 x 2 3 4 5", 3, Reason::Fields),
+    ("append 1 x 2 3 -", 3, Reason::Name),
+    ("append a x 2 3 -", 3, Reason::Time),
+    ("append a 0 2 3 -", 3, Reason::Number),
+    ("append a 0 2 3 9223372036854775808", 3, Reason::Number),
+    ("correct 1 - - - -", 3, Reason::Fields),
+    ("correct a 2 3 -", 3, Reason::Number),
+];
+
 #[test]
 fn commands(rt: HostRuntime) -> Result<(), Fail> {
-    for (text, line, reason) in [
-        ("appends a 0 2 3", 3, Reason::Keyword),
-        ("session", 3, Reason::Fields),
-        ("session 1", 3, Reason::Session),
-        ("session 3", 3, Reason::Session),
-        ("session x", 3, Reason::Number),
-        ("correct a 2", 3, Reason::Fields),
-        ("correct 1 - -", 3, Reason::Name),
-        ("correct a 2 -", 3, Reason::Number),
-        ("remove", 3, Reason::Fields),
-        ("remove a b", 3, Reason::Fields),
-        ("remove 1", 3, Reason::Name),
-        ("log x", 3, Reason::Fields),
-        ("log 0 1 x", 3, Reason::Number),
-        ("log 2 1 0 at 1", 3, Reason::Interval),
-        ("sig x y z at x", 3, Reason::Time),
-        ("sig 2 1 0 at 18446744073709551616", 3, Reason::Number),
-        ("sig 2 1 0 at 18446744073709551615", 3, Reason::Interval),
-        ("sig 0 1 0 in 0", 3, Reason::Fields),
-        ("sig 0 1 0 at", 3, Reason::Fields),
-        ("append a 0 2", 3, Reason::Fields),
-        ("append 1 x 2", 3, Reason::Fields),
-        ("append 1 x 2 -", 3, Reason::Name),
-        ("append a x 2 -", 3, Reason::Time),
-        ("append a 65536 2 3", 3, Reason::Time),
-        ("append a 0 2 -", 3, Reason::Number),
-        ("append a 0 2 9223372036854775808", 3, Reason::Number),
-        ("sig x 0 x", 3, Reason::Time),
-        ("sig 0 65537 17", 3, Reason::Time),
-        ("sig 2 1 x", 3, Reason::Number),
-        ("sig 2 1 0", 3, Reason::Interval),
-        ("sig 2 1 17", 3, Reason::Interval),
-        ("sig 0 65536 17", 3, Reason::Resolution),
-        ("# x\n \nsig 0 1 17\nappend a 0 2", 5, Reason::Resolution),
-        ("append a 0 2 3\nappend a 0 2\nsig 2 1 0", 4, Reason::Fields),
-    ] {
+    for (text, line, reason) in COMMANDS {
         let script = format!(in rt.alloc(); "shape 2 2\nsession 1\n{text}\n")?;
         assert_eq!(rt;
             fault_of(rt.alloc(), script.as_bytes()),
@@ -107,9 +120,101 @@ fn commands(rt: HostRuntime) -> Result<(), Fail> {
     Ok(())
 }
 
+/// Shapes, numbers of entries, and whether rows of the shape may have so many.
+const NUMBERS_OF_ENTRIES: [(&str, u32, bool); 36] = [
+    ("2 4", 1, false),
+    ("2 4", 2, true),
+    ("2 4", 3, true),
+    ("2 4", 4, false),
+    ("2 4", 5, true),
+    ("2 4", 6, false),
+    ("2 4", 7, false),
+    ("2 4", 8, true),
+    ("2 4", 9, false),
+    ("3 3", 2, false),
+    ("3 3", 3, true),
+    ("3 3", 4, false),
+    ("3 3", 5, false),
+    ("3 3", 6, true),
+    ("3 3", 7, false),
+    ("3 3", 13, false),
+    ("3 3", 14, true),
+    ("3 3", 15, false),
+    ("1 1", 0, false),
+    ("1 1", 1, true),
+    ("1 1", 2, false),
+    ("1 8", 0, false),
+    ("1 8", 1, true),
+    ("1 8", 2, false),
+    ("2 1", 1, false),
+    ("2 1", 2, true),
+    ("2 1", 3, false),
+    ("12 3", 11, false),
+    ("12 3", 12, true),
+    ("12 3", 13, false),
+    ("12 3", 77, false),
+    ("12 3", 78, true),
+    ("12 3", 79, false),
+    ("12 3", 649, false),
+    ("12 3", 650, true),
+    ("12 3", 651, false),
+];
+
+#[test]
+fn numbers_of_entries(rt: HostRuntime) -> Result<(), Fail> {
+    for (shape, number, good) in NUMBERS_OF_ENTRIES {
+        let due = if good {
+            None
+        } else {
+            Some(ScriptFault::Line(3, Reason::Fields))
+        };
+        for form in ["append a 0", "correct a"] {
+            let head = format!(in rt.alloc(); "shape {shape}\nsession 1\n{form}")?;
+            let bytes = repeated(rt.alloc(), head.as_str(), " -7", number)?;
+            assert_eq!(rt;
+                fault_of(rt.alloc(), &bytes),
+                due,
+                "{shape}: {number} entries"
+            );
+        }
+    }
+    Ok(())
+}
+
+/// Rows of one part, of three, of two and of one again.
+const ROWS_IN_PARTS: &str =
+    "shape 2 4\nsession 1\nappend a 0 1 2\ncorrect a 3 -4 5 -6 7\nappend b 1 0 0 8\ncorrect b 9 10";
+
+#[test]
+fn entries_by_degree(rt: HostRuntime) -> Result<(), Fail> {
+    let script = read_script(rt.alloc(), ROWS_IN_PARTS.as_bytes())
+        .ok()
+        .ok_or("refused")?;
+    let commands = script.sessions()[0].list();
+    let due: [[&[i64]; 4]; 4] = [
+        [&[1, 2], &[], &[], &[]],
+        [&[3, -4], &[5], &[-6, 7], &[]],
+        [&[0, 0], &[8], &[], &[]],
+        [&[9, 10], &[], &[], &[]],
+    ];
+    assert_eq!(rt; commands.len(), due.len());
+    for (command, parts) in commands.iter().zip(due) {
+        let (Command::Edit(Edit::Append { x, .. }) | Command::Edit(Edit::Correct { x, .. })) =
+            command
+        else {
+            return Err(Fail::from("no row"));
+        };
+        assert_eq!(rt; x.shape().depth(), 4);
+        for (before, part) in parts.iter().enumerate() {
+            assert_eq!(rt; x.part(before as u32 + 1), *part);
+        }
+    }
+    Ok(())
+}
+
 #[test]
 fn limits(rt: HostRuntime) -> Result<(), Fail> {
-    // The widest shapes have 2 and 1,885 words.
+    // The shapes have 2 and 1,885 words.
     let narrow = "shape 1 1\nsession 1\n";
     let wide = "shape 12 3\nsession 1\n";
     let row = "append a 0 1 1 1 1 1 1 1 1 1 1 1 1\n";
@@ -149,11 +254,13 @@ fn limits(rt: HostRuntime) -> Result<(), Fail> {
     Ok(())
 }
 
+/// A script with each form of line.
+const EACH_FORM: &str =
+    "\t# \u{0}\r\nshape 2 2\r\n\n \t\nsession 1\n append  append 1/2 2\t-3\r\nappend b 65535 -0 00\n#\nsig 0 65536 16\nsig 0 0 0 at 18446744073709551615\ncorrect b 7 8\nremove remove\nlog 0 0 0";
+
 #[test]
-fn a_script(rt: HostRuntime) -> Result<(), Fail> {
-    let text =
-        "\t# \u{0}\r\nshape 2 2\r\n\n \t\nsession 1\n append  append 1/2 2\t-3\r\nappend b 65535 -0 00\n#\nsig 0 65536 16\nsig 0 0 0 at 18446744073709551615\ncorrect b 7 8\nremove remove\nlog 0 0 0";
-    let script = read_script(rt.alloc(), text.as_bytes())
+fn edits(rt: HostRuntime) -> Result<(), Fail> {
+    let script = read_script(rt.alloc(), EACH_FORM.as_bytes())
         .ok()
         .ok_or("refused")?;
     let shape = script.shape();
@@ -173,18 +280,6 @@ fn a_script(rt: HostRuntime) -> Result<(), Fail> {
         assert_eq!(rt; x.shape().depth(), 2);
         assert_eq!(rt; x.part(1), entries.as_slice());
     }
-    let Command::Ask(ask) = &commands[2] else {
-        return Err(Fail::from("no query"));
-    };
-    assert_eq!(rt;
-        (ask.from, ask.to, ask.r, ask.version),
-        (0, 4_294_967_296, 16, None)
-    );
-    assert_eq!(rt; ask.kind, Kind::Sig);
-    let Command::Ask(ask) = &commands[3] else {
-        return Err(Fail::from("no query"));
-    };
-    assert_eq!(rt; ask.version, Some(18_446_744_073_709_551_615));
     let Command::Edit(Edit::Correct { name, x }) = &commands[4] else {
         return Err(Fail::from("no correction"));
     };
@@ -193,9 +288,26 @@ fn a_script(rt: HostRuntime) -> Result<(), Fail> {
         return Err(Fail::from("no removal"));
     };
     assert_eq!(rt; name.text(), "remove");
-    let Command::Ask(ask) = &commands[6] else {
-        return Err(Fail::from("no query"));
-    };
-    assert_eq!(rt; (ask.kind, ask.version), (Kind::Log, None));
+    Ok(())
+}
+
+#[test]
+fn queries(rt: HostRuntime) -> Result<(), Fail> {
+    let script = read_script(rt.alloc(), EACH_FORM.as_bytes())
+        .ok()
+        .ok_or("refused")?;
+    let commands = script.sessions()[0].list();
+    assert_eq!(rt; commands.len(), 7);
+    for (command, kind, to, r, version) in [
+        (&commands[2], Kind::Sig, 4_294_967_296, 16, None),
+        (&commands[3], Kind::Sig, 0, 0, Some(u64::MAX)),
+        (&commands[6], Kind::Log, 0, 0, None),
+    ] {
+        let Command::Ask(ask) = command else {
+            return Err(Fail::from("no query"));
+        };
+        assert_eq!(rt; ask.kind, kind);
+        assert_eq!(rt; (ask.from, ask.to, ask.r, ask.version), (0, to, r, version));
+    }
     Ok(())
 }

@@ -17,6 +17,7 @@ without_return [] = []
 without_return (c ∷ []) = if c == 13 then [] else c ∷ []
 without_return (c ∷ d ∷ line) = c ∷ without_return (d ∷ line)
 
+-- the bytes cut at each line feed, and each piece without one carriage return at its end
 abbrev pub lines_of : List ℕ → List (List ℕ)
 lines_of bytes = map without_return (pieces_of bytes)
 
@@ -37,6 +38,7 @@ words_in (c ∷ line) =
     else if starts_word line then onto_first c (words_in line)
     else (c ∷ []) ∷ words_in line
 
+-- the line from its first byte on that isn't a space or a tab
 abbrev pub after_blanks : List ℕ → List ℕ
 after_blanks [] = []
 after_blanks (c ∷ line) = if is_blank c then after_blanks line else c ∷ line

@@ -3,9 +3,11 @@ use Rattle.std.specs.Prelude.{ℕ, Bool, false, ◌&&◌, ◌||◌, ◌==◌, na
 use Rattle.std.specs.List.{list_all}
 use Rattle.spellings.specs.Numbers.{is_digit}
 
+-- a letter, small or capital
 abbrev pub is_alphabetic : ℕ → Bool
 is_alphabetic c = (nat_le 97 c && nat_le c 122) || (nat_le 65 c && nat_le c 90)
 
+-- the first byte is a letter
 abbrev pub starts_alphabetic : List ℕ → Bool
 starts_alphabetic [] = false
 starts_alphabetic (c ∷ word) = is_alphabetic c

@@ -1,7 +1,9 @@
 -- Numbers and times, as they are spelled.
 use Rattle.std.specs.Prelude.{ℕ, ◌+◌, ◌-◌, ◌*◌, ◌/◌, ◌^◌, Bool, ◌&&◌, ◌==◌, nat_lt, nat_le, if◌then◌else◌, List, [], ◌∷◌, fold, length, Option, Some, None, ℤ, pos, neg_ℤ}
+use Rattle.std.specs.Int.{is_power_of_two}
 use Rattle.std.specs.List.{list_all, list_any, before_first, after_first}
 
+-- a decimal digit
 abbrev pub is_digit : ℕ → Bool
 is_digit c = nat_le 48 c && nat_le c 57
 
@@ -9,6 +11,7 @@ is_digit c = nat_le 48 c && nat_le c 57
 abbrev pub is_plain : List ℕ → Bool
 is_plain word = nat_le 1 (length word) && nat_le (length word) 20 && list_all is_digit word
 
+-- the number that the digits spell
 abbrev pub value_of : List ℕ → ℕ
 value_of word = fold (λ n c. 10 * n + (c - 48)) 0 word
 
@@ -23,10 +26,9 @@ whole_of (c ∷ word) =
     if c == 45 then (if is_plain word && nat_le (value_of word) (2 ^ 63) then Some (neg_ℤ (pos (value_of word))) else None)
     else (if is_plain (c ∷ word) && nat_lt (value_of (c ∷ word)) (2 ^ 63) then Some (pos (value_of (c ∷ word))) else None)
 
--- 1, 2, 4, .. up to the ticks of a unit of time
+-- a power of two, up to the ticks of a unit of time
 abbrev pub is_denominator : ℕ → Bool
-is_denominator b =
-    list_any (λ power. b == power) (1 ∷ 2 ∷ 4 ∷ 8 ∷ 16 ∷ 32 ∷ 64 ∷ 128 ∷ 256 ∷ 512 ∷ 1024 ∷ 2048 ∷ 4096 ∷ 8192 ∷ 16384 ∷ 32768 ∷ 65536 ∷ [])
+is_denominator b = is_power_of_two b && nat_le b 65536
 
 -- a / b in ticks
 abbrev pub fraction_up_to : ℕ → List ℕ → List ℕ → Option ℕ

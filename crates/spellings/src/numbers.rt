@@ -93,25 +93,7 @@ fn below_zero(digits: &[u8]) -> Option<i64>
 fn is_denominator(value: u128) -> bool
     ensures { result ≡ is_denominator value }
 {
-    matches!(
-        value,
-        1 | 2
-            | 4
-            | 8
-            | 16
-            | 32
-            | 64
-            | 128
-            | 256
-            | 512
-            | 1024
-            | 2048
-            | 4096
-            | 8192
-            | 16384
-            | 32768
-            | 65536
-    )
+    value.is_power_of_two() && value <= TICKS
 }
 
 // The tick of a time without a fraction, where it is at most the given one.

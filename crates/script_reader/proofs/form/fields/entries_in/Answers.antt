@@ -2,10 +2,9 @@ use Rattle.std.proofs.Common.{◌≡◌, ◌+◌, ◌∷◌, ◌++◌, [], List,
 use Rattle.std.proofs.lemmas.Grind.{common_steps}
 use Rattle.std.proofs.lemmas.Int.{ints, to_z-of_z}
 use Rattle.std.proofs.lemmas.List.{at_drop_more, at_drop_all}
-use Rattle.script_reader.specs.Lines.{are_entries}
-use Rattle.script_reader.specs.Script.{entries_of}
+use Rattle.script_reader.specs.Fields.{are_entries, entries_of}
 use Rattle.script_reader.proofs.Fields.{entry_missing, entry_found, no_entries}
-use Rattle.script_reader.proofs.form.entries_in.Goals as goal
+use Rattle.script_reader.proofs.form.fields.entries_in.Goals as goal
 
 abbrev spelled : List (Bor (List ℕ)) → List (List ℕ)
 spelled words = map (λ w. w.now) words

@@ -1,7 +1,6 @@
 use Rattle.std.proofs.Common.{◌≡◌, ◌++◌, map, drop}
-use Rattle.script_reader.specs.Lines.{are_entries}
-use Rattle.script_reader.specs.Script.{entries_of}
-use Rattle.script_reader.proofs.form.entries_in.Given as goal
+use Rattle.script_reader.specs.Fields.{are_entries, entries_of}
+use Rattle.script_reader.proofs.form.fields.entries_in.Given as goal
 
 abbrev pub invariant-loop-word : goal.invariant-loop-word
 invariant-loop-word l = record {

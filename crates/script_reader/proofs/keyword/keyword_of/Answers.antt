@@ -1,7 +1,7 @@
 use Rattle.std.proofs.Common.{◌≡◌, codes, ap, sym, arith, rules}
 use Rattle.std.proofs.lemmas.Slice.Eq.{text_from_reads}
-use Rattle.script_reader.specs.Lines.{keyword_of}
-use Rattle.script_reader.proofs.form.keyword_of.Goals as goal
+use Rattle.script_reader.specs.Forms.{keyword_of}
+use Rattle.script_reader.proofs.keyword.keyword_of.Goals as goal
 
 pub returns-in-shape : goal.returns-in-shape
 returns-in-shape c =

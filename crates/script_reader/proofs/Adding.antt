@@ -1,0 +1,31 @@
+-- Adding the commands of a line one by one is adding all of them.
+use Rattle.std.proofs.Common.{◌≡◌, ◌<◌, List, ◌∷◌, None, All}
+use Rattle.std.proofs.lemmas.List.Elements.{All-head, All-tail}
+use Rattle.script_reader.specs.declared.command.Command.{Command}
+use Rattle.script_reader.specs.declared.tally.Tally.{Tally}
+use Rattle.script_reader.specs.Limits.{named, with_command, with_commands, limit_reason}
+use Rattle.script_reader.specs.Script.{onto_last, all_onto_last, IsCommand}
+use Rattle.script_reader.specs.Reading.{Keeps}
+use Rattle.script_reader.proofs.Kept.{within_limits, keeps_command}
+
+-- with this tally and these sessions, and the rest of the commands still to be added
+pub record IsAdding (first : Tally) (firsts : List (List Command)) (all : List Command) (t : Tally) (sessions : List (List Command)) (rest : List Command) : Type 0 where
+  pub opened : 0 < t.sessions
+  pub kept : Keeps t sessions
+  pub good : All (IsCommand (named t.shape)) rest
+  pub within : limit_reason t rest ≡ None
+  pub tallied : with_commands t rest ≡ with_commands first all
+  pub added : all_onto_last sessions rest ≡ all_onto_last firsts all
+
+-- one command was added
+pub adds_next : (first : Tally) (firsts : List (List Command)) (all : List Command) (t : Tally) (sessions : List (List Command)) (command : Command) (rest : List Command) (t' : Tally) (sessions' : List (List Command)) → IsAdding first firsts all t sessions (command ∷ rest) → t' ≡ with_command t command → sessions' ≡ onto_last command sessions → IsAdding first firsts all t' sessions' rest
+adds_next first firsts all t sessions command rest t' sessions' a e e' =
+    let limits = within_limits t command rest a.within in
+    rw (e, e') (record {
+      opened = a.opened;
+      kept = keeps_command t sessions command a.kept a.opened (All-head (IsCommand (named t.shape)) command rest a.good) limits.0;
+      good = All-tail (IsCommand (named t.shape)) command rest a.good;
+      within = limits.1;
+      tallied = a.tallied;
+      added = a.added;
+    })
