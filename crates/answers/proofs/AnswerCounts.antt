@@ -4,6 +4,7 @@ use Rattle.std.specs.Prelude.{Option, Some, None, sum_by}
 use Rattle.std.proofs.lemmas.List.{length-append}
 use Rattle.std.proofs.lemmas.List.Sums.{sum_by-cons}
 use Rattle.std.proofs.lemmas.List.Folds.{sum_by-replicate}
+use Rattle.session.proofs.RoundLaws.{command-taken}
 use Rattle.definitions.specs.Words.{Extent}
 use Rattle.script_reader.specs.declared.command.Command.{Command}
 use Rattle.script_reader.specs.declared.command.Command.TheVariants as commands
@@ -19,13 +20,7 @@ abbrev commands_and_answers : Run → ℕ
 commands_and_answers run = sum_by length run.left + sum_by length run.transcripts
 
 -- ---- lists
-command-gone : (left : List (List Command)) (i : ℕ) (command : Command) (rest : List Command) → get_or left i [] ≡ command ∷ rest → sum_by length (set left i (drop 1 (get_or left i []))) + 1 ≡ sum_by length left
-command-gone [] i command rest e = absurd (cc)
-command-gone (session ∷ left) zero command rest e =
-    omega (arith, sum_by-cons length (drop 1 session) left, sum_by-cons length session left, ap length e, ap (λ (cs : List Command). length (drop 1 cs)) e)
-command-gone (session ∷ left) (suc i) command rest e =
-    omega (arith, sum_by-cons length session (set left i (drop 1 (get_or left i []))), sum_by-cons length session left, command-gone left i command rest e)
-
+-- answers come to one session
 answers-come : (transcripts : List (List Due)) (i : ℕ) (dues : List Due) → sum_by length (set transcripts i (get_or transcripts i [] ++ dues)) ≤ sum_by length transcripts + length dues
 answers-come [] i dues = omega arith
 answers-come (before ∷ transcripts) zero dues = omega (arith, sum_by-cons length (before ++ dues) transcripts, sum_by-cons length before transcripts, length-append before dues)
@@ -36,8 +31,8 @@ answers-come (before ∷ transcripts) (suc i) dues =
 module _ (capacity : ℕ) (extent : Extent) (session : ℕ) (run : Run) where
   command-answered : (command : Command) (rest : List Command) → of_session session run.left ≡ command ∷ rest
       → commands_and_answers (with_request capacity extent session (request_for extent session command) run) ≤ commands_and_answers run
-  command-answered (commands.Edit edit) rest e = omega (arith, command-gone run.left (session - 1) (commands.Edit edit) rest e, answers-come run.transcripts (session - 1) (answers_to extent run.state (request_for extent session (commands.Edit edit))))
-  command-answered (commands.Ask ask) rest e = omega (arith, command-gone run.left (session - 1) (commands.Ask ask) rest e, answers-come run.transcripts (session - 1) (answers_to extent run.state (request_for extent session (commands.Ask ask))))
+  command-answered (commands.Edit edit) rest e = omega (arith, command-taken run.left (session - 1) (commands.Edit edit) rest e, answers-come run.transcripts (session - 1) (answers_to extent run.state (request_for extent session (commands.Edit edit))))
+  command-answered (commands.Ask ask) rest e = omega (arith, command-taken run.left (session - 1) (commands.Ask ask) rest e, answers-come run.transcripts (session - 1) (answers_to extent run.state (request_for extent session (commands.Ask ask))))
 
   request-answered : (pending : Option PendingLook) (left : List Command) (request : Request) → of_session session run.left ≡ left → next_of extent session pending left ≡ Some request
       → commands_and_answers (with_request capacity extent session request run) ≤ commands_and_answers run

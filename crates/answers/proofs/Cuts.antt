@@ -7,9 +7,11 @@ use Rattle.std.proofs.lemmas.List.{length-append, get_or_at}
 use Rattle.std.proofs.lemmas.List.Elements.{All-get_or}
 use Rattle.std.proofs.lemmas.List.Splits.{slice_split_at}
 
+-- the byte is the mark
 abbrev pub is_mark : ℕ → ℕ → Bool
 is_mark mark byte = byte == mark
 
+-- none of the bytes is the mark
 abbrev pub Lacks : ℕ → List ℕ → Type 0
 Lacks mark bytes = All (λ byte. is_mark mark byte ≡ false) bytes
 

@@ -5,7 +5,13 @@ use Rattle.std.specs.Fmt.{digits}
 use Rattle.definitions.specs.Words.{up_to}
 use Rattle.definitions.specs.Sums.{sum_below}
 use Rattle.definitions.specs.Products.{scaled_product, product_term}
-use Rattle.definitions.specs.Moves.{plain, step, move_weight}
+use Rattle.definitions.specs.Moves.{Parts, plain, lie_series, step, root, move_weight}
+use Rattle.definitions.specs.Exponentials.{plain_product, exponential}
+use Rattle.definitions.specs.Hall.{number_of, expansion, text_of}
+use Rattle.definitions.specs.Commutators.{commutator_term, commutator}
+use Rattle.definitions.specs.Logarithm.{logarithm}
+use Rattle.lie_bracket.specs.Brackets.{bracket}
+use Rattle.dynkin_map.specs.Coordinates.{coordinate, coordinates}
 use Rattle.definitions.specs.Signature.{signature}
 use Rattle.versions.specs.declared.edit.Edit.TheVariants as edit
 use Rattle.script_reader.specs.declared.command.Command.TheVariants as commands
@@ -26,13 +32,36 @@ one_row_due = outcome ((Edited (Done 1) ∷ Valued (Found 1 0 1 1) (signature (p
 
 one_row : outcome_text (record { width = 2; depth = 2 }) one_row_due
     ≡ codes "shape 2 2\nsession 1\n1 done 1\n2 sig version 1 hits 0 misses 1 exps 1\nlevel 1 over 1 (1)=2 (2)=3\nlevel 2 over 2 (1,1)=4 (1,2)=6 (2,1)=6 (2,2)=9\norder 1,1,1\nversions 1\n"
-unfolding signature scaled_product product_term sum_below step move_weight digits
+unfolding signature scaled_product product_term sum_below step lie_series exponential plain_product expansion root move_weight digits
 one_row = refl
 
 one_row_in_json : json_text (record { width = 2; depth = 2 }) one_row_due
     ≡ codes "{\"order\":[1,1,1],\"sessions\":[[{\"command\":1,\"reply\":\"done\",\"version\":1},{\"command\":2,\"exps\":1,\"hits\":0,\"levels\":[{\"over\":\"1\",\"terms\":[[\"(1)\",\"2\"],[\"(2)\",\"3\"]]},{\"over\":\"2\",\"terms\":[[\"(1,1)\",\"4\"],[\"(1,2)\",\"6\"],[\"(2,1)\",\"6\"],[\"(2,2)\",\"9\"]]}],\"misses\":1,\"reply\":\"sig\",\"version\":1}]],\"shape\":[2,2],\"versions\":1}\n"
-unfolding signature scaled_product product_term sum_below step move_weight digits serde_json_on_literals
+unfolding signature scaled_product product_term sum_below step lie_series exponential plain_product expansion root move_weight digits serde_json_on_literals
 one_row_in_json = refl
+
+-- ---- rows that are Lie elements
+-- the bracket of the letters alone, and the first letter with it
+abbrev area : Parts
+area = (pos 0 ∷ pos 0 ∷ []) ∷ (pos 1 ∷ []) ∷ []
+
+abbrev letter_with_area : Parts
+letter_with_area = (pos 1 ∷ pos 0 ∷ []) ∷ (pos 1 ∷ []) ∷ []
+
+-- the signature of moves on two letters of depth 2, and its logarithm
+abbrev both_due : List Parts → DueOutcome
+both_due moves =
+    outcome ((Valued (Found 1 0 1 1) (signature moves) ∷ Logged (Found 1 1 0 0) (coordinates (record { width = 2; depth = 2 }) (logarithm (signature moves))) ∷ []) ∷ []) (1 ∷ 1 ∷ 1 ∷ []) 1
+
+area_alone : outcome_text (record { width = 2; depth = 2 }) (both_due (area ∷ []))
+    ≡ codes "shape 2 2\nsession 1\n1 sig version 1 hits 0 misses 1 exps 1\nlevel 1 over 1\nlevel 2 over 2 (1,2)=2 (2,1)=-2\n2 log version 1 hits 1 misses 0 exps 0\nlevel 1 over 1\nlevel 2 over 8 [1,2]=8\norder 1,1,1\nversions 1\n"
+unfolding signature scaled_product product_term sum_below step lie_series exponential plain_product expansion commutator commutator_term root move_weight logarithm coordinates coordinate bracket number_of text_of digits
+area_alone = refl
+
+area_and_letter : outcome_text (record { width = 2; depth = 2 }) (both_due (letter_with_area ∷ plain 2 (pos 0 ∷ pos 1 ∷ []) ∷ []))
+    ≡ codes "shape 2 2\nsession 1\n1 sig version 1 hits 0 misses 1 exps 1\nlevel 1 over 1 (1)=1 (2)=1\nlevel 2 over 2 (1,1)=1 (1,2)=4 (2,1)=-2 (2,2)=1\n2 log version 1 hits 1 misses 0 exps 0\nlevel 1 over 1 1=1 2=1\nlevel 2 over 8 [1,2]=12\norder 1,1,1\nversions 1\n"
+unfolding signature scaled_product product_term sum_below step lie_series exponential plain_product expansion commutator commutator_term root move_weight logarithm coordinates coordinate bracket number_of text_of digits
+area_and_letter = refl
 
 two_sessions : outcome_text (record { width = 1; depth = 8 })
     (outcome ((Edited (Done 1) ∷ Edited (NameTaken 1) ∷ []) ∷ (Edited (NoRow 1) ∷ Refused (Overflow 60097) ∷ Refused (NoVersion 1) ∷ []) ∷ []) (1 ∷ 2 ∷ 1 ∷ 2 ∷ 2 ∷ []) 1)
@@ -73,5 +102,5 @@ second_query = refl
 summary_of_two : summary_text 2 (record { width = 1; depth = 2 })
     (outcome ((Valued (Found 1 1 2 3) (signature (plain 2 (pos 3 ∷ []) ∷ [])) ∷ []) ∷ (Logged (Found 2 4 5 6) (record { factor = negsuc 12; number = 1 } ∷ []) ∷ Refused (NoVersion 2) ∷ []) ∷ []) (1 ∷ 2 ∷ 2 ∷ []) 2)
     ≡ codes "gen 2\nsteps 3\nversions 2\nhits 5\nmisses 7\nexps 9\nsum 18446744073709551615\n"
-unfolding signature scaled_product product_term sum_below step move_weight digits
+unfolding signature scaled_product product_term sum_below step lie_series exponential plain_product expansion root move_weight digits
 summary_of_two = refl

@@ -1,19 +1,21 @@
 -- The generated script is within the limits of scripts, and a command more.
-use Rattle.std.proofs.Common.{◌≡◌, ◌≢◌, ◌∙◌, ℕ, suc, zero, ◌+◌, ◌-◌, ◌%◌, ◌≤◌, add-one, Bool, true, false, List, [], ◌∷◌, ◌++◌, length, get_or, refl, sym, ap, ap₂, arith}
+use Rattle.std.proofs.Common.{◌≡◌, ◌≢◌, ◌∙◌, ℕ, suc, zero, ◌+◌, ◌-◌, ◌%◌, ◌≤◌, ◌<◌, ◌^◌, ℤ, add-one, Bool, true, false, List, [], ◌∷◌, ◌++◌, length, get_or, refl, sym, ap, ap₂, arith}
 use Rattle.std.specs.Prelude.{map, filter, All, ◌==◌, nat_lt, if◌then◌else◌}
 use Rattle.std.proofs.lemmas.Bool.Decides.{nat_tests}
 use Rattle.std.proofs.lemmas.List.{append-nil, map-append, map_push, length-map, length-append}
-use Rattle.std.proofs.lemmas.List.Elements.{filter-append, All-map}
+use Rattle.std.proofs.lemmas.List.Elements.{filter-append, All-nil, All-cons, All-map}
 use Rattle.definitions.specs.Words.{Extent, up_to}
 use Rattle.definitions.specs.Moves.{IsMove, plain}
 use Rattle.script_reader.specs.declared.command.Command.{Command}
 use Rattle.script_reader.specs.Script.{IsCommand, IsScript}
 use Rattle.answers.specs.Generator.{draw, entries_from, command_from, command_at, numbers_of, generated}
 
+-- the shape of the generated script: width 2, depth 4
 abbrev pub generated_extent : Extent
 generated_extent = record { width = 2; depth = 4 }
 
 -- ---- numbers
+-- what is drawn is at most 65536
 pub draw-small : (n i : ℕ) → n ≤ 65536 → draw n i ≤ 65536
 draw-small n zero h = h
 draw-small n (suc i) h = omega arith
@@ -72,7 +74,14 @@ either P true x y p q = p
 either P false x y p q = q
 
 entries-move : (z : ℕ) → IsMove generated_extent (plain 4 (entries_from z))
-entries-move z = record { letters = refl; one_part = refl }
+entries-move z =
+    let few : List ℤ → Type 0 = λ part. length part < 2 ^ 32 in
+    record {
+      letters = refl;
+      deep = refl;
+      short = All-cons few (entries_from z) ([] ∷ [] ∷ [] ∷ []) (omega arith)
+          (All-cons few [] ([] ∷ [] ∷ []) (omega arith) (All-cons few [] ([] ∷ []) (omega arith) (All-cons few [] [] (omega arith) (All-nil few))));
+    }
 
 command-within : (z i : ℕ) → z ≤ 65536 → IsCommand generated_extent (command_from z i)
 command-within z i h =
@@ -89,6 +98,7 @@ commands-within n session h =
 commands-few : (n session : ℕ) → length (commands_to n n session) ≤ n
 commands-few n session = omega (arith, length-map (numbers_of n session) (command_at n), numbers-few n session)
 
+-- a generated script of at most 10000 commands is one
 pub generated-within : (n : ℕ) → n ≤ 10000 → IsScript (generated n)
 generated-within n h =
     let first = commands-few n 0 in

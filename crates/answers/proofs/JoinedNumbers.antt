@@ -22,10 +22,12 @@ module _ (mark : ℕ) (no_digit : (d : ℕ) → d < 10 → 48 + d ≢ mark) wher
       let more : Lacks mark (glyph ∷ after) = All-cons (λ byte. is_mark mark byte ≡ false) glyph after (glyph-lacks (n % 10) (omega arith)) h in
       cond_both (n / 10 == 0) (glyph ∷ after) (digits_onto k 10 false (n / 10) (glyph ∷ after)) (Lacks mark) (λ _. more) (λ _. onto-lacks k (n / 10) (glyph ∷ after) more)
 
+  -- no decimal has a mark that isn't a digit
   pub decimal-lacks : (n : ℕ) → Lacks mark (decimal n)
   unfolding digits
   decimal-lacks n = onto-lacks 64 n [] (All-nil (λ byte. is_mark mark byte ≡ false))
 
+  -- nor have decimals with commas between, where the mark isn't a comma either
   pub joined-lacks : is_mark mark 44 ≡ false → (numbers : List ℕ) → Lacks mark (join_with_byte 44 (map decimal numbers))
   joined-lacks no_comma [] = All-nil (λ byte. is_mark mark byte ≡ false)
   joined-lacks no_comma (n ∷ []) = decimal-lacks n

@@ -53,11 +53,3 @@ signature-told extent c reply tensor (Edited r) h = absurd h
 signature-told extent c reply tensor (Valued r series) h = ap₂ (look_json c (codes "sig")) h.0 (levels-same extent tensor series h.1)
 signature-told extent c reply tensor (Logged r terms) h = absurd h
 signature-told extent c reply tensor (Refused r) h = absurd h
-
--- the JSON of a logarithm is the one that is due
-pub logarithm-told : (extent : Extent) (c : ℕ) (reply : LookReply) (lie : List Term) (due : Due) → Shows extent (Log reply lie) due
-    → look_json c (codes "log") reply (logarithm_levels extent lie) ≡ answer_json extent c due
-logarithm-told extent c reply lie (Edited r) h = absurd h
-logarithm-told extent c reply lie (Valued r series) h = absurd h
-logarithm-told extent c reply lie (Logged r terms) h = ap₂ (λ (r : LookReply) (ts : List Term). look_json c (codes "log") r (logarithm_levels extent ts)) h.0 h.1
-logarithm-told extent c reply lie (Refused r) h = absurd h

@@ -15,10 +15,12 @@ mod-below : (z : ℤ) → int_mod z (2 ^ 64) < 2 ^ 64
 mod-below (pos n) = omega arith
 mod-below (negsuc n) = omega arith
 
+-- the bits of a wrapped integer, as a number, are its value modulo 2^64
 mod-of-wrapped : (z : ℤ) → cast_unsigned w64 (int_wrap w64 z) ≡ int_mod z (2 ^ 64)
 unfolding int_wrap
 mod-of-wrapped z = ap (λ n. cast_unsigned w64 (cast_signed w64 n)) (remainder-is z) ∙ of_z-to_z w64 (int_mod z (2 ^ 64)) (mod-below z)
 
+-- wrapping what was taken modulo 2^64 changes nothing
 wrapped-mod : (z : ℤ) → int_wrap w64 (pos (int_mod z (2 ^ 64))) ≡ int_wrap w64 z
 unfolding int_wrap
 wrapped-mod z =
@@ -33,6 +35,7 @@ mod-add a b =
     ∙ ap (cast_unsigned w64) (int_wrap-add_same w64 (pos (int_mod a (2 ^ 64))) a b (wrapped-mod a))
     ∙ mod-of-wrapped (a +ℤ b)
 
+-- a number that is added modulo 2^64 to a sum of naturals is added to its integer
 pub mod-added : (sum : ℕ) (z : ℤ) → (sum + int_mod z (2 ^ 64)) % 2 ^ 64 ≡ int_mod (pos sum +ℤ z) (2 ^ 64)
 mod-added sum z =
     ap (λ y. int_mod y (2 ^ 64)) (+ℤ_comm (pos sum) (pos (int_mod z (2 ^ 64))))

@@ -5,8 +5,8 @@ use Rattle.std.specs.Fmt.{signed_decimal}
 use Rattle.std.proofs.lemmas.Bool.{or_parts}
 use Rattle.definitions.specs.Words.{Extent, up_to, words_of, factorial}
 use Rattle.definitions.specs.Logarithm.{lcm_to}
-use Rattle.hall_set.specs.Hall.{hall_list, degree, text_of}
-use Rattle.hall_set.specs.declared.member.Member.{Member}
+use Rattle.definitions.specs.Hall.{hall_list, degree, text_of}
+use Rattle.definitions.specs.declared.member.Member.{Member}
 use Rattle.lie_bracket.specs.declared.term.Term.{Term}
 use Rattle.serde_json.specs.Data.{Data, string}
 use Rattle.serde_json.specs.View.{items_of}
@@ -85,6 +85,7 @@ answers-none : (extent : Extent) (c : ℕ) (dues : List Due) → NoFloats (answe
 answers-none extent c [] = refl
 answers-none extent c (due ∷ dues) = neither (has_float (answer_json extent c due)) _ (answer-none extent c due) (answers-none extent (suc c) dues)
 
+-- the object of an outcome has no floating-point numbers, whose text the JSON crate says nothing of
 pub outcome-none : (extent : Extent) (outcome : DueOutcome) → has_float (outcome_json extent outcome) ≡ false
 outcome-none extent outcome =
     neither (items_have_float (items_of (map natural outcome.order))) _ (none-mapped natural outcome.order (λ n. refl))

@@ -49,6 +49,7 @@ text-order front front' order order' versions versions' h h' e =
     let before = last-cut 32 _ _ (decimal versions) (decimal versions') (digits-lack versions) (digits-lack versions') line in
     (last-cut 32 (front ++ codes "order") (front' ++ codes "order") order order' h h' (append_cancel_right _ _ (codes "\nversions") before.0)).1
 
+-- the text tells the order of the steps
 pub text-tells : TellsOrder outcome_text
 text-tells extent first second h h' e =
     let front : DueOutcome → List ℕ = λ outcome. codes "shape " ++ decimal extent.width ++ codes " " ++ decimal extent.depth ++ codes "\n"
@@ -87,6 +88,7 @@ json-order key order order' others others' e =
     first-cut 93 _ _ _ _ (joined-lacks 93 (λ d h e. omega arith) refl order) (joined-lacks 93 (λ d h e. omega arith) refl order')
     (append_cancel_left (codes "{" ++ compact_text (string key) ++ codes ":[") _ _ (sym (json-cut key order others) ∙ e ∙ json-cut key order' others'))
 
+-- so does the JSON
 pub json-tells : TellsOrder json_text
 json-tells extent first second h h' e =
     joined-tells first.order second.order h h'

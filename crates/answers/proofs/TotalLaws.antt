@@ -82,6 +82,7 @@ module _ (extent : Extent) where
   shows-flat (kept ∷ transcripts) (dues ∷ sessions) h = shows-append kept (flat_map (λ kept. kept) transcripts) dues (flat_map (λ dues. dues) sessions) h.0 (shows-flat transcripts sessions h.1)
 
 -- ---- the summary
+-- nothing is counted yet
 abbrev pub no_totals : Totals
 no_totals = record { hits = 0; misses = 0; exps = 0; sum = 0 }
 

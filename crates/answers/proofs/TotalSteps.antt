@@ -8,11 +8,13 @@ use Rattle.answers.specs.declared.summary.Totals.{Totals}
 use Rattle.answers.specs.Totals.{HasRoom, with_kept}
 use Rattle.answers.proofs.TotalLaws.{no_totals}
 
+-- one answer more is counted
 pub answer-more : (start totals next : Totals) (xs : List Answer) (i : ℕ) (x : Answer) → i < length xs → x ≡ get_or xs i x
     → totals ≡ fold with_kept start (take i xs) → next ≡ with_kept totals x → next ≡ fold with_kept start (take (i + 1) xs)
 answer-more start totals next xs i x h e before step =
     step ∙ ap (λ (t : Totals). with_kept t x) before ∙ ap (with_kept (fold with_kept start (take i xs))) e ∙ sym (fold_more with_kept start xs i x h)
 
+-- one session more is counted
 pub session-more : (start totals next : Totals) (xss : List (List Answer)) (i : ℕ) (xs : List Answer) → i < length xss → xs ≡ get_or xss i xs
     → totals ≡ fold with_kept start (flat_map (λ answers. answers) (take i xss)) → next ≡ fold with_kept totals xs → next ≡ fold with_kept start (flat_map (λ answers. answers) (take (i + 1) xss))
 session-more start totals next xss i xs h e before step =
@@ -26,9 +28,11 @@ session-more start totals next xss i xs h e before step =
     ∙ ap (λ (ys : List Answer). fold with_kept start ys) more
 
 -- ---- room
+-- what has room for n answers more has room for fewer
 pub room-less : (m n : ℕ) (totals : Totals) → m ≤ n → HasRoom n totals → HasRoom m totals
 room-less m n totals h room = record { hits = omega (arith, room.hits); misses = omega (arith, room.misses); exps = omega (arith, room.exps) }
 
+-- at first there is room for fewer than 2^64 answers
 pub room-at-first : (n : ℕ) → n < 2 ^ 64 → HasRoom n no_totals
 room-at-first n h = record { hits = omega arith; misses = omega arith; exps = omega arith }
 

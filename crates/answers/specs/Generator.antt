@@ -22,6 +22,7 @@ draw n (suc i) = (75 * draw n i + 74) % 65537
 abbrev pub entries_from : ℕ → List ℤ
 entries_from z = (pos (z % 7) -ℤ pos 3) ∷ (pos (z / 7 % 7) -ℤ pos 3) ∷ []
 
+-- the name of the row that the command i appends: r and i in decimals
 abbrev pub row_name : ℕ → List ℕ
 row_name i = codes "r" ++ decimal i
 
@@ -44,6 +45,7 @@ command_at n i = command_from (draw n (suc i)) i
 abbrev pub numbers_of : ℕ → ℕ → List ℕ
 numbers_of n session = filter (λ i. i % 4 == session) (map (λ i. i - 1) (up_to n))
 
+-- the script of n commands, in turn of four sessions, of width 2 and depth 4
 abbrev pub generated : ℕ → ScriptValue
 generated n = record {
   extent = record { width = 2; depth = 4 };
@@ -51,6 +53,7 @@ generated n = record {
 }
 
 -- ---- the summary
+-- the sum of whole numbers
 abbrev pub int_sum : List ℤ → ℤ
 int_sum [] = pos 0
 int_sum (x ∷ xs) = x +ℤ int_sum xs
@@ -67,20 +70,24 @@ abbrev pub hits_in : LookReply → ℕ
 hits_in (Found version hits misses exps) = hits
 hits_in _ = 0
 
+-- the nodes with rows that weren't kept
 abbrev pub misses_in : LookReply → ℕ
 misses_in (Found version hits misses exps) = misses
 misses_in _ = 0
 
+-- the rows that were exponentiated
 abbrev pub exps_in : LookReply → ℕ
 exps_in (Found version hits misses exps) = exps
 exps_in _ = 0
 
+-- a count of the reply, where the answer has a value; 0 for edits and refusals
 abbrev pub counted : (LookReply → ℕ) → Due → ℕ
 counted count (Edited reply) = 0
 counted count (Valued reply series) = count reply
 counted count (Logged reply terms) = count reply
 counted count (Refused reply) = 0
 
+-- the answers of all sessions, one session after another
 abbrev pub all_dues : DueOutcome → List Due
 all_dues outcome = flat_map (λ dues. dues) outcome.transcripts
 
@@ -89,6 +96,7 @@ abbrev pub int_mod : ℤ → ℕ → ℕ
 int_mod (pos n) m = n % m
 int_mod (negsuc n) m = (m - (suc n) % m) % m
 
+-- the lines of the summary, each a word and a number in decimals; the sum of numerators modulo 2^64
 abbrev pub summary_text : ℕ → Extent → DueOutcome → List ℕ
 summary_text n extent outcome =
     codes "gen " ++ decimal n

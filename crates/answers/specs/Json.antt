@@ -3,8 +3,8 @@ use Rattle.std.specs.Prelude.{ℕ, zero, suc, ◌*◌, ◌==◌, if◌then◌els
 use Rattle.std.specs.Fmt.{decimal, signed_decimal}
 use Rattle.definitions.specs.Words.{Extent, up_to, words_of, factorial}
 use Rattle.definitions.specs.Logarithm.{lcm_to}
-use Rattle.hall_set.specs.Hall.{hall_list, degree, text_of}
-use Rattle.hall_set.specs.declared.member.Member.{Member}
+use Rattle.definitions.specs.Hall.{hall_list, degree, text_of}
+use Rattle.definitions.specs.declared.member.Member.{Member}
 use Rattle.lie_bracket.specs.declared.term.Term.{Term}
 use Rattle.serde_json.specs.Data.{unsigned, Data, number, string, array, object, no_members, member}
 use Rattle.serde_json.specs.View.{items_of}
@@ -15,9 +15,11 @@ use Rattle.book.specs.declared.step.LookReply.TheVariants.{Found, NoVersion, Pai
 use Rattle.session.specs.Play.{Due, Edited, Valued, Logged, Refused, DueOutcome}
 use Rattle.answers.specs.Text.{word_text}
 
+-- a number that is no text
 abbrev pub natural : ℕ → Data
 natural n = number (unsigned n)
 
+-- an array
 abbrev pub list : List Data → Data
 list items = array (items_of items)
 
@@ -34,6 +36,7 @@ level_json denominator terms = object (member (codes "over") (string (decimal de
 abbrev pub signature_level : Extent → (List ℕ → ℤ) → ℕ → Data
 signature_level extent series k = level_json (factorial k) (flat_map (λ word. term_json (word_text word) (series word)) (words_of extent.width k))
 
+-- the levels of a signature from 1 to the depth, each over k!
 abbrev pub signature_levels : Extent → (List ℕ → ℤ) → List Data
 signature_levels extent series = map (signature_level extent series) (up_to extent.depth)
 
@@ -41,13 +44,16 @@ signature_levels extent series = map (signature_level extent series) (up_to exte
 abbrev pub coordinate_json : List Member → ℕ → Term → List Data
 coordinate_json hall k t = if degree hall t.number == k then list (string (text_of hall t.number) ∷ string (signed_decimal t.factor) ∷ []) ∷ [] else []
 
+-- the members of degree k with their coordinates, over k k! lcm_to k
 abbrev pub logarithm_level : Extent → List Term → ℕ → Data
 logarithm_level extent terms k = level_json (k * (factorial k * lcm_to k)) (flat_map (coordinate_json (hall_list extent.width extent.depth) k) terms)
 
+-- the levels of a logarithm from 1 to the depth
 abbrev pub logarithm_levels : Extent → List Term → List Data
 logarithm_levels extent terms = map (logarithm_level extent terms) (up_to extent.depth)
 
 -- ---- answers
+-- the answer to an edit: the number of its command, the reply and the version
 abbrev pub edit_json : ℕ → List ℕ → ℕ → Data
 edit_json c reply version = object (member (codes "command") (natural c) (member (codes "reply") (string reply) (member (codes "version") (natural version) no_members)))
 
@@ -80,6 +86,7 @@ abbrev pub answers_json : Extent → ℕ → List Due → List Data
 answers_json extent c [] = []
 answers_json extent c (due ∷ dues) = answer_json extent c due ∷ answers_json extent (suc c) dues
 
+-- the whole object: the sessions of the steps, the answers of each session, the shape and the last version
 abbrev pub outcome_json : Extent → DueOutcome → Data
 outcome_json extent outcome = object (
     member (codes "order") (list (map natural outcome.order))

@@ -4,8 +4,8 @@ use Rattle.std.specs.List.{join_with_byte}
 use Rattle.std.specs.Fmt.{decimal, signed_decimal}
 use Rattle.definitions.specs.Words.{Extent, up_to, words_of, factorial}
 use Rattle.definitions.specs.Logarithm.{lcm_to}
-use Rattle.hall_set.specs.Hall.{hall_list, degree, text_of}
-use Rattle.hall_set.specs.declared.member.Member.{Member}
+use Rattle.definitions.specs.Hall.{hall_list, degree, text_of}
+use Rattle.definitions.specs.declared.member.Member.{Member}
 use Rattle.lie_bracket.specs.declared.term.Term.{Term}
 use Rattle.versions.specs.declared.edit.EditReply.TheVariants.{Done, NameTaken, NoRow}
 use Rattle.book.specs.declared.step.LookReply.{LookReply}
@@ -44,6 +44,7 @@ log_level_text extent terms k =
     ++ flat_map (coordinate_text (hall_list extent.width extent.depth) k) terms
     ++ codes "\n"
 
+-- the levels of a logarithm from 1 to the depth
 abbrev pub log_levels_text : Extent → List Term → List ℕ
 log_levels_text extent terms = flat_map (log_level_text extent terms) (up_to extent.depth)
 
@@ -81,6 +82,7 @@ abbrev pub order_text : List ℕ → List ℕ
 order_text [] = codes "none"
 order_text (session ∷ order) = join_with_byte 44 (map decimal (session ∷ order))
 
+-- the whole text: the shape, each session with its answers, the order and the last version
 abbrev pub outcome_text : Extent → DueOutcome → List ℕ
 outcome_text extent outcome =
     codes "shape " ++ decimal extent.width ++ codes " " ++ decimal extent.depth ++ codes "\n"

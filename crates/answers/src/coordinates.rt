@@ -1,7 +1,7 @@
 //! The lines of a logarithm's levels.
 ghost use Rattle.std.specs.Prelude.{◌≡◌, ◌++◌, ◌≤◌, codes, flat_map, string_bytes, OnOk, All};
 ghost use Rattle.std.specs.Fmt.{signed_decimal};
-ghost use Rattle.hall_set.specs.Hall.{InHall, hall_list, text_of};
+ghost use Rattle.definitions.specs.Hall.{InHall, hall_list, text_of};
 ghost use Rattle.answers.specs.Text.{coordinate_text, log_level_text, log_levels_text};
 
 use crate::levels::push_number;

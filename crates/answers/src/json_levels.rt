@@ -3,7 +3,7 @@ ghost use Rattle.std.specs.Prelude.{◌≡◌, ◌^◌, ◌++◌, ◌∷◌, ◌
 ghost use Rattle.std.specs.Fmt.{signed_decimal};
 ghost use Rattle.definitions.specs.Words.{words_of, number};
 ghost use Rattle.scaled_tensor.specs.Tensors.{coefficient};
-ghost use Rattle.hall_set.specs.Hall.{InHall, hall_list, text_of};
+ghost use Rattle.definitions.specs.Hall.{InHall, hall_list, text_of};
 ghost use Rattle.serde_json.specs.Data.{string};
 ghost use Rattle.serde_json.specs.View.{view};
 ghost use Rattle.answers.specs.Text.{word_text};

@@ -7,7 +7,7 @@ use session::{Answer, EditReply, LookReply, Outcome, Transcript, replay_round};
 use std::alloc::Global;
 use std::sync::ledger::{Blank, Ledger};
 use std::test::Fail;
-use words::{Free, Memory, Shape, ShapeFault, Steps};
+use words::{Capacity, Free, Memory, Shape, ShapeFault, Steps};
 
 /// The coefficients 2, -3 at the letters and 4, 0, -6, 9 at the pairs of letters.
 fn tensor(alloc: Global, shape: Shape) -> Result<Tensor, Memory>
@@ -138,7 +138,7 @@ fn run_of<L: Ledger>(alloc: Global, n: u32, blank: Blank) -> Result<(Vec<u32>, V
 {
     let mut steps: Steps<L> = Steps::new(blank);
     let script = gen_script(alloc, n)?;
-    let outcome = replay_round(alloc, &script, 4096, &mut steps)?;
+    let outcome = replay_round(alloc, &script, Capacity::usual(), &mut steps)?;
     let summary = summary_of(alloc, n, script.shape(), &outcome)?;
     Ok((outcome.order, summary))
 }

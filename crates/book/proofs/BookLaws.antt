@@ -3,6 +3,7 @@ use Rattle.std.proofs.Common.{◌≡◌, ◌∙◌, ℕ, ◌-◌, ◌≤◌, ref
 use Rattle.std.proofs.lemmas.Bool.{cases_Bool}
 use Rattle.std.proofs.lemmas.List.{length-set, length_push, length-replicate}
 use Rattle.std.proofs.lemmas.List.Elements.{All-nil, All-replicate, All-weaker}
+use Rattle.words.specs.Capacities.{most_capacity}
 use Rattle.definitions.specs.Words.{Extent}
 use Rattle.node_cache.specs.Entries.{CacheValue}
 use Rattle.versions.specs.declared.edit.Edit.{Edit}
@@ -21,12 +22,14 @@ use Rattle.book.proofs.EditLaws.{taken, after-accepted, after-refused}
 abbrev value_with : Extent → ℕ → ℕ → List Step → Bool → BookValue
 value_with extent capacity sessions history spent = record { extent = extent; capacity = capacity; sessions = sessions; history = history; spent = spent }
 
+-- what a book of these parts is seen as: as many sessions as there are places for pending looks
 abbrev pub value_of : LogValue → CacheValue → List (Option PendingLook) → List Step → Bool → BookValue
 value_of log cache pending history spent = value_with log.extent cache.capacity (length pending) history spent
 
 abbrev state_with : List Accepted → List Pair → List (Option PendingLook) → State
 state_with edits pairs pending = record { edits = edits; pairs = pairs; pending = pending }
 
+-- the state that these parts hold
 abbrev pub state_from : LogValue → CacheValue → List (Option PendingLook) → State
 state_from log cache pending = state_with log.edits (held cache.entries) pending
 
@@ -45,7 +48,8 @@ same-value a b extent capacity sessions history spent =
     ∙ ap (λ (s : Bool). value_with b.extent b.capacity b.sessions b.history s) spent
 
 -- ---- at first
-pub held-first : (extent : Extent) (capacity sessions : ℕ) (pending : List (Option PendingLook)) → 1 ≤ capacity → capacity ≤ 16384 → 1 ≤ sessions → sessions ≤ 16 → pending ≡ replicate sessions None
+-- a book without steps, of 1 to 16 sessions and 1 to 16384 kept nodes
+pub held-first : (extent : Extent) (capacity sessions : ℕ) (pending : List (Option PendingLook)) → 1 ≤ capacity → capacity ≤ most_capacity → 1 ≤ sessions → sessions ≤ 16 → pending ≡ replicate sessions None
     → IsHeld (record { extent = extent; edits = [] }) (record { capacity = capacity; entries = [] }) pending [] false
 held-first extent capacity sessions pending some within one few are =
     let count : length pending ≡ sessions = ap length are ∙ length-replicate sessions None in
@@ -118,6 +122,7 @@ module _ (log : LogValue) (cache : CacheValue) (pending : List (Option PendingLo
         of_versions = of_versions;
       }
 
+  -- an edit leaves what a book holds: the step of the play, or all as it was
   pub held-edit : {T E : Type 0} (result : Result T E) (e : Edit) (new_log : LogValue) (new_cache : CacheValue) (steps : List Step)
       → OnOk result (new_log ≡ record { extent = log.extent; edits = after_edit log.edits e })
       → OnOk result (held new_cache.entries ≡ pairs_after_edit log.edits (after_edit log.edits e) (held cache.entries))
@@ -133,6 +138,7 @@ module _ (log : LogValue) (cache : CacheValue) (pending : List (Option PendingLo
       subst (λ (l : LogValue). IsHeld l new_cache pending steps spent) (sym err.0)
       (subst (λ (c : CacheValue). IsHeld log c pending steps spent) (sym err.1) (subst (λ (ss : List Step). IsHeld log cache pending ss spent) (sym err.2) before))
 
+  -- so does a look
   pub held-look : {T E : Type 0} (result : Result T E) (q : Query) (new_cache : CacheValue) (looks : List (Option PendingLook)) (steps : List Step)
       → OnOk result (state_from log new_cache looks ≡ after_looking session q (state_from log cache pending))
       → OnOk result (steps ≡ history ++ Looked session q (look_reply (state_from log cache pending) q) ∷ [])

@@ -1,6 +1,6 @@
 -- A walk has few hits, misses and rows of leaves, so that the counts fit.
-use Rattle.std.proofs.Common.{◌≡◌, ◌∙◌, ℕ, zero, suc, ◌+◌, ◌-◌, ◌*◌, ◌^◌, ◌<◌, ◌≤◌, refl, sym, ap, arith, Bool, true, false, cond, not, List, [], ◌∷◌, ◌++◌, length, map, length-append}
-use Rattle.std.specs.Prelude.{sum_by, nat_le, filter, ◌&&◌}
+use Rattle.std.proofs.Common.{◌≡◌, ◌∙◌, ℕ, zero, suc, ◌+◌, ◌-◌, ◌*◌, ◌^◌, ◌<◌, ◌≤◌, refl, sym, ap, arith, true, false, cond, not, List, [], ◌∷◌, ◌++◌, length, map, length-append}
+use Rattle.std.specs.Prelude.{sum_by, nat_le}
 use Rattle.std.proofs.lemmas.List.{map-append}
 use Rattle.std.proofs.lemmas.List.Sums.{sum_by-append}
 use Rattle.std.proofs.lemmas.List.Filters.{length-filter_both}
@@ -8,7 +8,7 @@ use Rattle.std.proofs.lemmas.List.Concat.{length-flat_map}
 use Rattle.std.proofs.lemmas.Nat.{pow_pos}
 use Rattle.std.proofs.Math.Nat.{pow-suc}
 use Rattle.definitions.specs.Rows.{RowValue, lies_in, rows_in}
-use Rattle.dyadic.specs.Nodes.{NodeValue, low_of, high_of, left_of, right_of}
+use Rattle.dyadic.specs.Nodes.{NodeValue, low_of, high_of}
 use Rattle.dyadic.proofs.Spans.{halves-share, low-lt-high}
 use Rattle.increments.specs.Edits.{IsInOrder}
 use Rattle.increments.proofs.Joins.{rows_in-join}
@@ -80,6 +80,7 @@ module _ (edits : List Accepted) (v : ℕ) (pairs : List Pair) (count : Visit �
 abbrev nodes_of : NodeValue → ℕ
 nodes_of node = 2 ^ (node.height + 1) - 1
 
+-- a node has twice as many ticks as a half
 double : (height : ℕ) → 2 ^ (height + 1) ≡ 2 ^ height * 2
 double height = ap (λ (h : ℕ). 2 ^ h) (omega arith) ∙ pow-suc 2 height
 
@@ -113,6 +114,7 @@ module _ (edits : List Accepted) (v : ℕ) where
   }
 
   module _ (pairs : List Pair) (a b : ℕ) where
+    -- the count of the hits fits 64 bits: pieces and halves are no more than the nodes of their ticks
     pub few-hits : length (all_hits (walk edits v pairs a b)) < 2 ^ 64
     few-hits =
         omega (
@@ -121,6 +123,7 @@ module _ (edits : List Accepted) (v : ℕ) where
           walk-bounded edits v pairs (λ visit. length (hits_of visit)) nodes_of hits-bounded a b,
         )
 
+    -- so does the count of the misses
     pub few-misses : length (all_misses (walk edits v pairs a b)) < 2 ^ 64
     few-misses =
         omega (
@@ -156,6 +159,7 @@ module _ (edits : List Accepted) (v : ℕ) (order : IsInOrder (rows_at edits v))
     halves = λ height index. omega (arith, halves-count height index);
   }
 
+-- and that of the rows in leaves, which are some of the version's rows
 pub few-exps : (edits : List Accepted) (v : ℕ) (pairs : List Pair) (a b : ℕ) → IsInOrder (rows_at edits v) → a ≤ b → b ≤ 2 ^ 32 → length (rows_at edits v) < 2 ^ 63
     → sum_by exps_of (walk edits v pairs a b) < 2 ^ 64
 few-exps edits v pairs a b order le end few =

@@ -1,7 +1,7 @@
 -- Short plays, worked out by hand: each step's reply and state are those that the definitions compute.
 use Rattle.std.proofs.Common.{◌≡◌, refl, ℕ, ◌*◌, List, [], ◌∷◌, Option, Some, None}
-use Rattle.std.specs.Prelude.{pos, ℤ, replicate}
-use Rattle.definitions.specs.Moves.{move_weight}
+use Rattle.std.specs.Prelude.{pos}
+use Rattle.definitions.specs.Moves.{root, move_weight}
 use Rattle.dyadic.specs.Nodes.{NodeValue}
 use Rattle.versions.specs.declared.edit.Edit.{Edit}
 use Rattle.versions.specs.declared.edit.Edit.TheVariants.{Append, Correct}
@@ -48,7 +48,7 @@ appended : Goes (state [] [] None) (Editing 1 (append 97 0 5)) (Edited 1 (append
 appended = record { reply = refl; becomes = refl }
 
 missed : Goes (state one_row [] None) (Looking 1 (second None)) (Looked 1 (second None) (Found 1 0 1 1)) (state one_row [] (Some (record { version = 1; missed = whole ∷ [] })))
-unfolding move_weight
+unfolding move_weight root
 missed = record { reply = refl; becomes = refl }
 
 -- ---- what is kept is found, and again after a correction
@@ -62,7 +62,7 @@ kept : Goes (state one_row [] (missing 1 (whole ∷ []))) (Settling 1) (Settled 
 kept = record { reply = refl; becomes = refl }
 
 found : Goes (state one_row (whole_at 1 ∷ []) None) (Looking 1 (second None)) (Looked 1 (second None) (Found 1 1 0 0)) (state one_row (whole_at 1 ∷ []) None)
-unfolding move_weight
+unfolding move_weight root
 found = record { reply = refl; becomes = refl }
 
 abbrev two_edits : List Accepted
@@ -72,18 +72,18 @@ corrected : Goes (state one_row (whole_at 1 ∷ []) None) (Editing 1 (correct 97
 corrected = record { reply = refl; becomes = refl }
 
 old_found : Goes (state two_edits (whole_at 1 ∷ []) None) (Looking 1 (second (Some 1))) (Looked 1 (second (Some 1)) (Found 1 1 0 0)) (state two_edits (whole_at 1 ∷ []) None)
-unfolding move_weight
+unfolding move_weight root
 old_found = record { reply = refl; becomes = refl }
 
 new_missed : Goes (state two_edits (whole_at 1 ∷ []) None) (Looking 1 (second (Some 2))) (Looked 1 (second (Some 2)) (Found 2 0 1 1)) (state two_edits (whole_at 1 ∷ []) (missing 2 (whole ∷ [])))
-unfolding move_weight
+unfolding move_weight root
 new_missed = record { reply = refl; becomes = refl }
 
 new_kept : Goes (state two_edits (whole_at 1 ∷ []) (missing 2 (whole ∷ []))) (Settling 1) (Settled 1 1) (state two_edits (whole_at 2 ∷ whole_at 1 ∷ []) None)
 new_kept = record { reply = refl; becomes = refl }
 
 new_found : Goes (state two_edits (whole_at 2 ∷ whole_at 1 ∷ []) None) (Looking 1 (second None)) (Looked 1 (second None) (Found 2 1 0 0)) (state two_edits (whole_at 2 ∷ whole_at 1 ∷ []) None)
-unfolding move_weight
+unfolding move_weight root
 new_found = record { reply = refl; becomes = refl }
 
 -- ---- nine rows of one second, five in its left half: a correction in the right one leaves the left one's signature
@@ -106,7 +106,7 @@ abbrev right_at : ℕ → Pair
 right_at version = record { node = right; since = version }
 
 halves_missed : Goes (state nine_rows [] None) (Looking 1 (second None)) (Looked 1 (second None) (Found 9 0 3 9)) (state nine_rows [] (missing 9 (left ∷ right ∷ whole ∷ [])))
-unfolding move_weight
+unfolding move_weight root
 halves_missed = record { reply = refl; becomes = refl }
 
 halves_kept : Goes (state nine_rows [] (missing 9 (left ∷ right ∷ whole ∷ []))) (Settling 1) (Settled 1 3) (state nine_rows (whole_at 9 ∷ right_at 9 ∷ left_at 5 ∷ []) None)
@@ -122,5 +122,5 @@ right_corrected = record { reply = refl; becomes = refl }
 
 left_found : Goes (state with_correction (whole_at 9 ∷ right_at 9 ∷ left_at 5 ∷ []) None) (Looking 1 (second None)) (Looked 1 (second None) (Found 10 1 2 4))
     (state with_correction (left_at 5 ∷ whole_at 9 ∷ right_at 9 ∷ []) (missing 10 (right ∷ whole ∷ [])))
-unfolding move_weight
+unfolding move_weight root
 left_found = record { reply = refl; becomes = refl }

@@ -1,7 +1,7 @@
 -- The entries whose versions ended long ago, where none had before the last edit.
 use Rattle.std.proofs.Common.{◌≡◌, ◌∙◌, ℕ, suc, ◌+◌, ◌-◌, ◌<◌, ◌≤◌, ◌^◌, refl, sym, ap, subst, arith, Bool, true, false, not, cond, List, [], ◌∷◌, ◌++◌, length, take, get_or, Option, None, Some, inl, inr}
 use Rattle.std.specs.Prelude.{nat_lt, nat_le, nat_eq, ◌&&◌, filter, All, SomeIff, IfSome}
-use Rattle.std.proofs.lemmas.Bool.{cases_lt, cases_Bool, both_ways, le-leb, le-ltb, lt-ltb, ltb-false, ne_eqb, eq-eqb, eqb-true, cases_eq, and_from, and_parts}
+use Rattle.std.proofs.lemmas.Bool.{cases_lt, cases_Bool, both_ways, le-leb, le-ltb, lt-ltb, ltb-false, ne_eqb, eq-eqb, eqb-true, and_from, and_parts}
 use Rattle.std.proofs.lemmas.Bool.Decides.{nat_tests}
 use Rattle.std.proofs.lemmas.List.{length-append, take_more, take_all}
 use Rattle.std.proofs.lemmas.List.Elements.{All-head, All-tail, All-get_or, All-weaker, filter_agree}
@@ -11,7 +11,7 @@ use Rattle.dyadic.specs.Nodes.{NodeValue, low_of, high_of, left_of, right_of}
 use Rattle.dyadic.proofs.Spans.{meet-same, halves-share, low-lt-high}
 use Rattle.node_cache.specs.Entries.{Entry, is_of, without_pair}
 use Rattle.versions.specs.declared.log.Accepted.{Accepted}
-use Rattle.versions.specs.Versions.{LogValue, IsLog, IsEdit, touched, since, IsFirstTouch}
+use Rattle.versions.specs.Versions.{LogValue, IsLog, IsEdit, touched, since}
 use Rattle.versions.proofs.TouchLaws.{touched-next}
 use Rattle.book.specs.Play.{is_past}
 use Rattle.book.specs.Books.{Keeps, AreKept}
@@ -56,15 +56,6 @@ lies-right : (low middle right high end tick : ℕ) → low ≤ tick → tick < 
 lies-right low middle right high end tick after before meets ends outside = grind (arith, nat_tests)
 
 -- ---- an edit that ends a version
-module _ (a b : ℕ) (edits : List Accepted) (t : ℕ) where
-  -- it touches exactly where it is the first that does after the version before it
-  pub first-touch : (first : ℕ) → 1 ≤ t → IsFirstTouch a b edits (t - 1) first → nat_eq first t ≡ touched a b edits t
-  first-touch first some is =
-      elim (cases_eq first t) [
-        | inl same ↦ (eq-eqb first t same ∙ sym is.touches ∙ ap (touched a b edits) same)
-        | inr other ↦ (ne_eqb first t other ∙ sym (is.first t (omega arith) (omega (arith, is.later))))
-      ]
-
 module _ (a b : ℕ) (before : List Accepted) (last : Accepted) (v : ℕ) (back : v ≤ length before) (latest : since a b before v ≡ v) (recent : nat_lt v (since a b before (length before - 64)) ≡ false) where
   ended-next : (t : ℕ) → t ≡ length before - 64 → t ≤ length before
       → nat_lt v (since a b (before ++ last ∷ []) (suc t)) ≡ (touched a b (before ++ last ∷ []) (suc t) && nat_eq v (since a b (before ++ last ∷ []) t))
@@ -146,6 +137,7 @@ without_ended edits t height entries = filter (λ e. not (nat_le e.node.height h
 
 module _ (edits : List Accepted) (t : ℕ) (node : NodeValue) (s : ℕ) (some : 1 ≤ t) (within : t ≤ length edits) (touches : touched (low_of node) (high_of node) edits t ≡ true)
     (from : s ≡ since (low_of node) (high_of node) edits (t - 1)) (entries : List Entry) where
+  -- the node's own pair goes, and then the ended entries of less height: so all ended ones up to its height are gone
   pub without-half : (half : ℕ) → half + 1 ≡ node.height → without_ended edits t half (without_pair node s entries) ≡ without_ended edits t node.height entries
   without-half half shorter =
       filter-both (λ e. not (nat_le e.node.height half && is_ended edits t e)) (λ e. not (is_of node s e)) entries
@@ -153,6 +145,7 @@ module _ (edits : List Accepted) (t : ℕ) (node : NodeValue) (s : ℕ) (some : 
       (λ e. ap (λ x. not x && not (nat_le e.node.height half && is_ended edits t e)) (is_of-ended edits t node s e some within touches from)
       ∙ heights-below e.node.height half node.height (is_ended edits t e) shorter) entries
 
+  -- at a node of one tick its own pair is the last
   pub without-last : node.height ≡ 0 → without_pair node s entries ≡ without_ended edits t node.height entries
   without-last last =
       filter_agree (λ e. not (is_of node s e)) (λ e. not (nat_le e.node.height node.height && is_ended edits t e))
@@ -160,6 +153,7 @@ module _ (edits : List Accepted) (t : ℕ) (node : NodeValue) (s : ℕ) (some : 
 
 -- ---- halves
 module _ (edits : List Accepted) (t : ℕ) (node half : NodeValue) (long : 0 < node.height) where
+  -- the left half, where the edit touches it
   pub left-touched : half ≡ left_of node → touched (low_of half) (high_of half) edits t ≡ true → IsTouchedHalf edits t node half
   left-touched is touches =
       subst (IsTouchedHalf edits t node) (sym is) (
@@ -186,6 +180,7 @@ module _ (edits : List Accepted) (t : ℕ) (node half : NodeValue) (long : 0 < n
             (sym (ap (λ a. lies_in a (high_of (left_of node)) tick) share.begins) ∙ outside);
       })
 
+-- the right half, where the edit touches the node and not its left half
 pub right-half : (edits : List Accepted) (t : ℕ) (node left : NodeValue) (right : Option NodeValue) → left ≡ left_of node → SomeIff right (0 < node.height) (right_of node)
     → 1 ≤ t → t ≤ length edits → touched (low_of node) (high_of node) edits t ≡ true → touched (low_of left) (high_of left) edits t ≡ false → IfSome right (IsTouchedHalf edits t node)
 right-half edits t node left None left_is right_is some within whole passes = tt
@@ -218,6 +213,7 @@ past-ended extent before last e keeps many =
     ap (λ x. not (x && is_ended edits touch e)) (le-leb e.node.height 32 keeps.is_node.within_height)
     ∙ sym (ap not (ended (low_of e.node) (high_of e.node) before last e.since keeps.back keeps.latest keeps.recent touch refl (omega arith)))
 
+-- after an edit the entries to drop are those that the edit of 64 versions ago ended, from the whole line down
 pub without-past : (log : LogValue) (entries : List Entry) → ((before : List Accepted) → (last : Accepted) → log.edits ≡ before ++ last ∷ [] → AreKept (record { extent = log.extent; edits = before }) entries)
     → 64 < length log.edits → without_ended log.edits (length log.edits - 64) 32 entries ≡ filter (λ e. not (is_past log.edits e.node e.since)) entries
 without-past log entries are many =

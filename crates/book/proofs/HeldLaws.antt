@@ -11,6 +11,7 @@ use Rattle.book.specs.Walks.{Pair, is_pair}
 use Rattle.book.specs.Play.{to_front}
 use Rattle.book.specs.Books.{Keeps, AreKept, pair_of, held}
 
+-- a test on pairs, of entries and of the pairs that they hold
 pub held-filter : (test : Pair → Bool) (entries : List Entry) → held (filter (λ e. test (pair_of e)) entries) ≡ filter test (held entries)
 held-filter test [] = refl
 held-filter test (e ∷ entries) =
@@ -26,6 +27,7 @@ module _ (node : NodeValue) (since : ℕ) where
       sym (take-map pair_of capacity (record { node = node; since = since; sig = sig } ∷ without_pair node since entries))
       ∙ ap (λ (ps : List Pair). take capacity (record { node = node; since = since } ∷ ps)) (held-filter (λ other. not (is_pair (record { node = node; since = since }) other)) entries)
 
+-- an entry with the signature of its rows may be put into a cache of such entries
 pub kept-kept : (log : LogValue) (node : NodeValue) (since : ℕ) (sig : SigValue) (capacity : ℕ) (entries : List Entry) → Keeps log.extent log.edits (record { node = node; since = since; sig = sig })
     → AreKept log entries → AreKept log (kept node since sig capacity entries)
 kept-kept log node since sig capacity entries keeps are =

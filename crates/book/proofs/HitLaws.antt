@@ -1,7 +1,6 @@
 -- The hits of a look go to the front of the kept pairs, and stay kept.
 use Rattle.std.proofs.Common.{◌≡◌, ◌∙◌, ℕ, zero, suc, ◌+◌, ◌*◌, refl, sym, ap, subst, arith, Bool, true, false, cond, not, ◌||◌, ◌<◌, List, [], ◌∷◌, ◌++◌, length, get_or, take, map, append_assoc, append-nil, Option, Some, None, inl, inr, Box, Global}
-use Rattle.std.specs.Prelude.{All, filter, nat_eq, nat_le}
-use Rattle.std.specs.List.{list_any}
+use Rattle.std.specs.Prelude.{All, filter, nat_le}
 use Rattle.std.specs.Option.{option_map_or}
 use Rattle.std.proofs.lemmas.Bool.{cases_Bool}
 use Rattle.std.proofs.lemmas.Bool.Decides.{nat_tests}
@@ -14,14 +13,14 @@ use Rattle.definitions.specs.Words.{Extent}
 use Rattle.definitions.specs.Rows.{RowValue}
 use Rattle.dyadic.specs.Nodes.{NodeValue, low_of, high_of}
 use Rattle.tensor_product.specs.Sigs.{SigValue}
-use Rattle.solve.specs.declared.plan.Plan.{Plan, Hit as HitPlan, Unit as UnitPlan, Leaf as LeafPlan, Split' as SplitPlan}
+use Rattle.solve.specs.declared.plan.Plan.{Plan, Hit as HitPlan, Unit as UnitPlan, Leaf as LeafPlan}
 use Rattle.solve.specs.declared.plan.Plan.TheViews as views
 use Rattle.node_cache.specs.Entries.{Entry, is_of, entry_of, without_pair, promoted}
 use Rattle.versions.specs.declared.log.Accepted.{Accepted}
 use Rattle.versions.specs.Versions.{since}
 use Rattle.book.specs.Walks.{Pair, is_pair, is_kept, pair_at, Visit, Hit, Unit, Leaf, Split, hits_of, all_hits, visited, visit_of, walk, pieces_of, count_at, absent}
 use Rattle.book.specs.Play.{to_front, with_hits}
-use Rattle.book.specs.Books.{Keeps, AreKept, pair_of, held}
+use Rattle.book.specs.Books.{pair_of, held}
 use Rattle.book.specs.Hits.{AllHeld}
 use Rattle.book.specs.Plans.{IsPlanOf, ArePlansOf}
 
@@ -68,6 +67,7 @@ found node since (e ∷ es) there =
           (rest.0, ap (λ b. cond b (Some e) (entry_of node since es)) other ∙ rest.1, rest.2)
     ]
 
+-- an entry that goes to the front takes its pair there
 pub held-promoted : (node : NodeValue) (since : ℕ) (es : List Entry) → is_kept (pair node since) (held es) ≡ true → held (promoted node since es) ≡ to_front (pair node since) (held es)
 held-promoted node since es there =
     let at = found node since es there in
@@ -87,10 +87,12 @@ module _ (P : Entry → Type 0) where
         | inr other ↦ all-found node since es e (All-tail P f es all) (sym (ap (λ b. cond b (Some f) (entry_of node since es)) other) ∙ at)
       ]
 
+  -- whether or not the entry is there
   by_entry : (node : NodeValue) (since : ℕ) (es : List Entry) (o : Option Entry) → entry_of node since es ≡ o → All P es → All P (option_map_or (λ e. e ∷ without_pair node since es) o es)
   by_entry node since es None at all = all
   by_entry node since es (Some e) at all = All-cons P e (without_pair node since es) (all-found node since es e all at) (All-filter (λ f. not (is_of node since f)) P es all)
 
+  -- what holds of all entries holds of them in another order
   pub all-promoted : (node : NodeValue) (since : ℕ) (es : List Entry) → All P es → All P (promoted node since es)
   all-promoted node since es all = by_entry node since es (entry_of node since es) refl all
 
@@ -132,10 +134,15 @@ module _ (edits : List Accepted) (v : ℕ) where
 -- ---- the hits of plans
 -- the halves of the visit that a split follows
 record Halved (extent : Extent) (edits : List Accepted) (v : ℕ) (visit : Visit) (left right : Plan) : Type 0 where
+  -- the visit of the left half
   pub first : Visit
+  -- the visit of the right half
   pub second : Visit
+  -- the hits are those of the left half and then those of the right half
   pub hits_are : hits_of visit ≡ hits_of first ++ hits_of second
+  -- the left plan follows the left visit
   pub left_follows : IsPlanOf extent edits v first left
+  -- the right plan follows the right visit
   pub right_follows : IsPlanOf extent edits v second right
 
 module _ (extent : Extent) (edits : List Accepted) (v : ℕ) where
@@ -161,6 +168,7 @@ Brought extent edits v plan before after =
     (visit : Visit) → IsPlanOf extent edits v visit plan → AllHeld edits v (hits_of visit) before → held after ≡ with_hits edits v (hits_of visit) (held before)
 
 module _ (extent : Extent) (edits : List Accepted) (v : ℕ) (plan : Plan) where
+  -- a hit brings its own pair to the front
   pub hit-brought : (node : NodeValue) (sig : Arc SigValue Global) → plan ≡ HitPlan node sig → (now : ℕ) → now ≡ since (low_of node) (high_of node) edits v
       → (before after : List Entry) → after ≡ promoted node now before → Brought extent edits v plan before after
   hit-brought node sig is now now_is before after after_is visit follows all =
@@ -171,14 +179,17 @@ module _ (extent : Extent) (edits : List Accepted) (v : ℕ) (plan : Plan) where
       ∙ held-promoted node (since (low_of node) (high_of node) edits v) before (All-head (λ node. is_kept (pair_at edits v node) (held before) ≡ true) node [] there)
       ∙ ap (λ nodes. with_hits edits v nodes (held before)) (sym hits)
 
+  -- a node without rows brings none
   pub unit-brought : (node : NodeValue) → plan ≡ UnitPlan node → (entries : List Entry) → Brought extent edits v plan entries entries
   unit-brought node is entries visit follows all =
       ap (λ nodes. with_hits edits v nodes (held entries)) (sym (unit-has_none extent edits v visit node (subst (IsPlanOf extent edits v visit) is follows)))
 
+  -- a leaf brings none
   pub leaf-brought : (node : NodeValue) (rows : List RowValue) → plan ≡ LeafPlan node rows → (entries : List Entry) → Brought extent edits v plan entries entries
   leaf-brought node rows is entries visit follows all =
       ap (λ nodes. with_hits edits v nodes (held entries)) (sym (leaf-has_none extent edits v visit node rows (subst (IsPlanOf extent edits v visit) is follows)))
 
+  -- a split brings those of its left half, and then those of its right half
   pub split-brought : (node : NodeValue) (left right : Box Plan Global) → plan ≡ views.Split node left right → (before between after : List Entry)
       → Brought extent edits v left.value before between → Brought extent edits v right.value between after → Brought extent edits v plan before after
   split-brought node left right is before between after one two visit follows all =
@@ -189,16 +200,22 @@ module _ (extent : Extent) (edits : List Accepted) (v : ℕ) (plan : Plan) where
       ∙ ap (λ nodes. with_hits edits v nodes (held before)) (sym halves.hits_are)
 
 -- ---- the hits of plans one after another
+-- what bringing the hits of some plans to the front, one after another, makes of the pairs
 abbrev pub AllBrought : Extent → List Accepted → ℕ → List Plan → List Entry → List Entry → Type 0
 AllBrought extent edits v plans before after =
     (visits : List Visit) → ArePlansOf extent edits v visits plans → AllHeld edits v (all_hits visits) before → held after ≡ with_hits edits v (all_hits visits) (held before)
 
 -- the visits that plans and one plan more follow
 record WithLast (extent : Extent) (edits : List Accepted) (v : ℕ) (visits : List Visit) (plans : List Plan) (plan : Plan) : Type 0 where
+  -- the visits of the first plans
   pub front : List Visit
+  -- the visit of the last one
   pub last : Visit
+  -- the hits are those of the first plans and then those of the last one
   pub hits_are : all_hits visits ≡ all_hits front ++ hits_of last
+  -- the first plans follow the first visits
   pub front_follows : ArePlansOf extent edits v front plans
+  -- the last plan follows the last visit
   pub last_follows : IsPlanOf extent edits v last plan
 
 module _ (extent : Extent) (edits : List Accepted) (v : ℕ) where
@@ -217,10 +234,12 @@ module _ (extent : Extent) (edits : List Accepted) (v : ℕ) where
   with_last [] (first ∷ plans) plan are = elim are [ ]
   with_last (visit ∷ other ∷ visits) [] plan are = elim are.1 [ ]
 
+  -- no plan brings none
   pub none-brought : (entries : List Entry) → AllBrought extent edits v [] entries entries
   none-brought entries [] are all = refl
   none-brought entries (visit ∷ visits) are all = elim are [ ]
 
+  -- one plan more brings its own after those of the others
   pub more-brought : (plans : List Plan) (i : ℕ) (plan : Plan) → i < length plans → plan ≡ get_or plans i plan → (before between after : List Entry)
       → AllBrought extent edits v (take i plans) before between → Brought extent edits v plan between after → AllBrought extent edits v (take (i + 1) plans) before after
   more-brought plans i plan within at before between after one two visits are all =
@@ -266,5 +285,6 @@ module _ (edits : List Accepted) (v : ℕ) (pairs : List Pair) where
       All-append (λ node. is_kept (pair_at edits v node) pairs ≡ true) (hits_of (visit_of edits v pairs node)) (all_hits (map (visit_of edits v pairs) nodes))
       (visited-among node.height node.index) (all-among nodes)
 
+-- all hits of a walk are pairs that are kept
 pub walk-held : (edits : List Accepted) (v : ℕ) (entries : List Entry) (a b : ℕ) → AllHeld edits v (all_hits (walk edits v (held entries) a b)) entries
 walk-held edits v entries a b = all-among edits v (held entries) (pieces_of a b)

@@ -13,7 +13,7 @@ mod PastLaws
 pub mod PieceLaws
 pub mod PlanLaws
 mod RowJoins
-mod SeenLaws
+pub mod SeenLaws
 mod SettledLaws
 pub mod SinceLaws
 pub mod StateLaws

@@ -16,9 +16,10 @@ use Rattle.book.specs.declared.step.LookReply.{LookReply}
 use Rattle.book.specs.declared.step.LookReply.TheVariants.{Found, NoVersion, Overflow}
 use Rattle.book.specs.Walks.{Pair, Visit, walk, visits_of}
 use Rattle.book.specs.Plans.{ArePlansOf}
-use Rattle.book.specs.Play.{State, PendingLook, looked_version, looked_rows, look_refusal, look_walk, refused_by, fits_from}
+use Rattle.book.specs.Play.{PendingLook, looked_version, looked_rows, look_refusal, look_walk, refused_by, fits_from}
 use Rattle.book.specs.Looks.{look_visits, visits_unless}
 
+-- where no reply refuses it, a look isn't refused
 pub none-unless_some : (refusal : Option LookReply) → ((reply : LookReply) → refusal ≡ Some reply → ⊥) → refusal ≡ None
 none-unless_some None unless = refl
 none-unless_some (Some reply) unless = absurd (unless reply refl)
@@ -28,6 +29,7 @@ by-test : (edits : List Accepted) (q : Query) {late : Bool} → nat_lt (length e
     → look_refusal edits q ≡ cond late (Some (NoVersion (length edits))) (refused_by q.allowed (weight (moves_of (looked_rows edits q))))
 by-test edits q test = ap (λ t. cond t (Some (NoVersion (length edits))) (refused_by q.allowed (weight (moves_of (looked_rows edits q))))) test
 
+-- a look at a version past the current one is refused with the current one
 pub refused-late : (edits : List Accepted) (q : Query) → length edits < looked_version edits q → look_refusal edits q ≡ Some (NoVersion (length edits))
 refused-late edits q late =
     let test : nat_lt (length edits) (looked_version edits q) ≡ true = grind (arith, nat_tests) in
@@ -42,6 +44,7 @@ unrefused edits q none =
       | inr there ↦ (grind (arith, nat_tests, there), sym (by-test edits q there) ∙ none)
     ]
 
+-- a refusal by weight isn't the reply `found`
 weighed-never_found : (a : Allowed) (w : ℕ) (reply : LookReply) → refused_by a w ≡ Some reply → (version hits misses exps : ℕ) → reply ≡ Found version hits misses exps → ⊥
 weighed-never_found (allowed.Pair a b) w reply is version hits misses exps found = cc
 weighed-never_found (allowed.Level k) w reply is version hits misses exps found = cc
@@ -71,6 +74,7 @@ module _ (edits : List Accepted) (q : Query) (v from to : ℕ) (looked : looked_
       ∙ ap (λ (a : ℕ). rows_in a (rounded q.r q.to) (rows_at edits v)) (sym begins) ∙ ap (λ (b : ℕ). rows_in from b (rows_at edits v)) (sym ends) in
       by-test edits q test ∙ ap (λ (rs : List RowValue). refused_by q.allowed (weight (moves_of rs))) rows
 
+  -- a look at a version that there is is refused by the weight of its rows alone
   pub refusal-is : (w : ℕ) (refusal : Option LookReply) → w ≡ weight (moves_of (rows_in from to (rows_at edits v))) → refusal ≡ refused_by q.allowed w → look_refusal edits q ≡ refusal
   refusal-is w refusal weighs is = refused-by_weight ∙ ap (refused_by q.allowed) (sym weighs) ∙ sym is
 
@@ -79,17 +83,16 @@ module _ (edits : List Accepted) (q : Query) (v from to : ℕ) (looked : looked_
       ap (λ (n : ℕ). walk edits n pairs (rounded q.r q.from) (rounded q.r q.to)) looked
       ∙ ap (λ (a : ℕ). walk edits v pairs a (rounded q.r q.to)) (sym begins) ∙ ap (λ (b : ℕ). walk edits v pairs from b) (sym ends)
 
+  -- the nodes of the walk are those that the look visits, where it isn't refused
   pub visits-are : look_refusal edits q ≡ None → (pairs : List Pair) (pending : List (Option PendingLook))
       → sum_by visits_of (walk edits v pairs from to) ≡ look_visits (record { edits = edits; pairs = pairs; pending = pending }) q
   visits-are answered pairs pending =
       ap (sum_by visits_of) (sym (walk-is pairs pending))
       ∙ sym (ap (λ refusal. visits_unless refusal (look_walk (record { edits = edits; pairs = pairs; pending = pending }) q)) answered)
 
+  -- plans that follow the walk are those of the look
   pub plans-are : (extent : Extent) (pairs : List Pair) (pending : List (Option PendingLook)) (plans : List Plan) → ArePlansOf extent edits v (walk edits v pairs from to) plans
       → ArePlansOf extent edits (looked_version edits q) (look_walk (record { edits = edits; pairs = pairs; pending = pending }) q) plans
   plans-are extent pairs pending plans are =
       subst (λ (n : ℕ). ArePlansOf extent edits n (look_walk (record { edits = edits; pairs = pairs; pending = pending }) q) plans) (sym looked)
       (subst (λ (visits : List Visit). ArePlansOf extent edits v visits plans) (sym (walk-is pairs pending)) are)
-
-pub visits-refused : (state : State) (q : Query) (reply : LookReply) → look_refusal state.edits q ≡ Some reply → look_visits state q ≡ 0
-visits-refused state q reply is = ap (λ refusal. visits_unless refusal (look_walk state q)) is

@@ -52,6 +52,7 @@ rounded-forward r a b le =
 
 -- ---- states and replies
 module _ (session : ℕ) (q : Query) (state : State) where
+  -- a refused look changes no state
   pub after-refused : (reply : LookReply) → look_refusal state.edits q ≡ Some reply → after_looking session q state ≡ state
   after-refused reply is = ap (λ refusal. unless_refused refusal state (after_found session q state)) is
 
@@ -69,6 +70,7 @@ module _ (session : ℕ) (q : Query) (state : State) where
       (pending_is ∙ ap (λ (ns : List NodeValue). pending_with session (pending_look (looked_version state.edits q) ns) state.pending) nodes_are)
       ∙ sym (after-answered none)
 
+-- the reply to a refused look is its refusal
 pub reply-refused : (state : State) (q : Query) (reply : LookReply) → look_refusal state.edits q ≡ Some reply → look_reply state q ≡ reply
 reply-refused state q reply is = ap (λ refusal. unwrap_or refusal (found state q)) is
 
@@ -101,10 +103,15 @@ not_refused extent ps (Heavy w) valid fits is = omega (arith, fits, subst (λ (n
 -- ---- what a look gives that isn't refused
 -- the plans of such a look
 pub record IsAnswered (extent : Extent) (state : State) (q : Query) (ps : List Plan) : Type 0 where
+  -- the query has its form
   pub query : IsQuery q
+  -- what it allows has a signature
   pub allows : AllowsSignatures extent q.allowed
+  -- the look isn't refused
   pub unrefused : look_refusal state.edits q ≡ None
+  -- the plans follow its walk
   pub are : ArePlansOf extent state.edits (looked_version state.edits q) (look_walk state q) ps
+  -- the rows of its version are in order, of the extent, and few enough
   pub rows : AreVersionRows extent (rows_at state.edits (looked_version state.edits q))
 
 -- such plans follow from what is known of the planning
@@ -115,6 +122,7 @@ planned-answered extent state q planned plans is is_planned query allows rows =
     let known = subst (IsPlanned extent state q) is is_planned in
     record { query = query; allows = allows; unrefused = known.0; are = known.1; rows = rows (unrefused state.edits q known.0).0 }
 
+-- a look whose plans are refused is refused with that reply
 pub planned-refused : (extent : Extent) (state : State) (q : Query) (planned : Planned) (reply : LookReply) → planned ≡ Refused reply → IsPlanned extent state q planned
     → look_refusal state.edits q ≡ Some reply
 planned-refused extent state q planned reply is is_planned = subst (IsPlanned extent state q) is is_planned
@@ -138,9 +146,11 @@ module _ (extent : Extent) (state : State) (q : Query) (ps : List Plan) (is : Is
   to-within : to ≤ 2 ^ 32
   to-within = omega (arith, is.query.end, div-mul-le_self q.to (2 ^ (16 - q.r)))
 
+  -- all plans are valid
   pub valid : All (IsValid extent) ps
   valid = plans-valid extent edits v state.pairs from to ps is.rows.order is.rows.moves is.are
 
+  -- their weight fits
   pub fits : total_weight ps ^ extent.depth ≤ limit
   fits =
       let weighs : total_weight ps ≡ weight (moves_of (looked_rows edits q)) =
@@ -148,6 +158,7 @@ module _ (extent : Extent) (state : State) (q : Query) (ps : List Plan) (is : Is
       subst (λ (w : ℕ). w ^ extent.depth ≤ limit) (sym weighs)
       (allowed-fits extent q.allowed (weight (moves_of (looked_rows edits q))) is.allows (unrefused edits q is.unrefused).1)
 
+  -- the work of these plans is that of the query
   pub work-of : (given : WorkValue) → given ≡ record { extent = extent; version = v; plans = ps } → IsWorkOf extent state q given
   work-of given is_it =
       subst (IsWorkOf extent state q) (sym is_it)
@@ -176,6 +187,7 @@ module _ (extent : Extent) (state : State) (q : Query) (ps : List Plan) (is : Is
   pub missed-nodes : (nodes : List NodeValue) → nodes ≡ map node_of (all_missed ps) → nodes ≡ all_misses (look_walk state q)
   missed-nodes nodes are = are ∙ missed-are extent edits v (look_walk state q) ps is.are
 
+  -- the look that waits is of a version that there is, and of nodes
   pub missed-pending : (nodes : List NodeValue) → nodes ≡ map node_of (all_missed ps) → IsPendingOr edits (pending_look v nodes)
   missed-pending nodes are = pending-of nodes (subst (All IsNode) (sym (missed-nodes nodes are)) (misses-are_nodes extent edits v (look_walk state q) ps is.are))
     where

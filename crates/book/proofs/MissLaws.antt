@@ -47,6 +47,7 @@ module _ (extent : Extent) (edits : List Accepted) (v : ℕ) where
       }
   agree _ _ is = elim is [ ]
 
+  -- the nodes that plans miss are those of their visits, in order
   pub missed-are : (visits : List Visit) (ps : List Plan) → ArePlansOf extent edits v visits ps → map node_of (all_missed ps) ≡ all_misses visits
   missed-are [] [] are = refl
   missed-are (visit ∷ visits) (plan ∷ ps) are =
@@ -55,6 +56,7 @@ module _ (extent : Extent) (edits : List Accepted) (v : ℕ) where
       ∙ ap (λ nodes. misses_of visit ++ nodes) (missed-are visits ps are.1)
   missed-are _ _ are = elim are [ ]
 
+  -- as many hits
   pub hits-are : (visits : List Visit) (ps : List Plan) → ArePlansOf extent edits v visits ps → sum_by plans.hits_of ps ≡ length (all_hits visits)
   hits-are [] [] are = refl
   hits-are (visit ∷ visits) (plan ∷ ps) are =
@@ -64,9 +66,11 @@ module _ (extent : Extent) (edits : List Accepted) (v : ℕ) where
       ∙ sym (length-append (hits_of visit) (all_hits visits))
   hits-are _ _ are = elim are [ ]
 
+  -- as many misses
   pub misses-are : (visits : List Visit) (ps : List Plan) → ArePlansOf extent edits v visits ps → length (all_missed ps) ≡ length (all_misses visits)
   misses-are visits ps are = sym (length-map (all_missed ps) node_of) ∙ ap length (missed-are visits ps are)
 
+  -- as many rows to exponentiate
   pub exps-are : (visits : List Visit) (ps : List Plan) → ArePlansOf extent edits v visits ps → sum_by plans.exps_of ps ≡ sum_by exps_of visits
   exps-are [] [] are = refl
   exps-are (visit ∷ visits) (plan ∷ ps) are =

@@ -1,13 +1,12 @@
 -- Pairs whose versions ended long ago.
-use Rattle.std.proofs.Common.{◌≡◌, ℕ, ◌+◌, ◌-◌, ◌<◌, ◌≤◌, subst, arith, false, List, length, inl, inr}
-use Rattle.std.specs.Prelude.{nat_lt, nat_le}
-use Rattle.std.proofs.lemmas.Bool.{cases_lt, both_ways, le-ltb, ltb-false}
-use Rattle.std.proofs.lemmas.Bool.Decides.{nat_tests}
+use Rattle.std.proofs.Common.{◌≡◌, ℕ, ◌-◌, ◌≤◌, subst, arith, false, List, length, inl, inr}
+use Rattle.std.specs.Prelude.{nat_lt}
+use Rattle.std.proofs.lemmas.Bool.{cases_lt, le-ltb, ltb-false}
 use Rattle.definitions.specs.Rows.{RowValue, moves_of}
 use Rattle.dyadic.specs.Nodes.{NodeValue, IsNode, low_of, high_of}
 use Rattle.tensor_product.specs.Sigs.{SigValue, StandsFor}
 use Rattle.versions.specs.declared.log.Accepted.{Accepted}
-use Rattle.versions.specs.Versions.{LogValue, IsLog, touched, since, IsFirstTouch}
+use Rattle.versions.specs.Versions.{LogValue, IsLog, since}
 use Rattle.versions.proofs.Untouched.{untouched-since}
 use Rattle.book.specs.Play.{is_past}
 use Rattle.book.specs.Plans.{HasSignature}
@@ -15,32 +14,6 @@ use Rattle.book.specs.Books.{Keeps}
 use Rattle.book.proofs.SinceLaws.{since-le, since-latest, since-touched, since-reaches}
 
 module _ (a b : ℕ) (edits : List Accepted) (v : ℕ) where
-  -- the last touch that is long ago is not before the first one after v
-  pub first-past : (t : ℕ) → IsFirstTouch a b edits v t → nat_lt v (since a b edits (length edits - 64)) ≡ nat_le (t + 64) (length edits)
-  first-past t is =
-      let last : ℕ = since a b edits (length edits - 64) in
-      let back : last ≤ length edits - 64 = since-le a b edits (length edits - 64) in
-      elim (cases_lt (length edits) (t + 64)) [
-        | inl soon ↦ (
-            let none : last ≤ v = elim (cases_lt v last) [
-              | inl later ↦ absurd (both_ways (touched a b edits last) (is.first last later (omega (arith, is.later))) (since-touched a b edits (length edits - 64) (omega arith)))
-              | inr le ↦ le
-            ] in
-            grind (arith, nat_tests))
-        | inr ago ↦ (
-            let after : v < last = omega (arith, is.later, since-reaches a b edits (length edits - 64) t is.touches (omega (arith, is.later)) (omega arith)) in
-            grind (arith, nat_tests))
-      ]
-
-  pub none-past : ((t : ℕ) → v < t → t ≤ length edits → touched a b edits t ≡ false) → nat_lt v (since a b edits (length edits - 64)) ≡ false
-  none-past none =
-      let last : ℕ = since a b edits (length edits - 64) in
-      let back : last ≤ length edits - 64 = since-le a b edits (length edits - 64) in
-      elim (cases_lt v last) [
-        | inl later ↦ absurd (both_ways (touched a b edits last) (none last later (omega arith)) (since-touched a b edits (length edits - 64) (omega arith)))
-        | inr le ↦ le-ltb v last le
-      ]
-
   -- what isn't touched long ago after v isn't after the last touch up to v
   pub past-since : nat_lt v (since a b edits (length edits - 64)) ≡ false → nat_lt (since a b edits v) (since a b edits (length edits - 64)) ≡ false
   past-since recent =

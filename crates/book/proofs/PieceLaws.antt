@@ -85,6 +85,7 @@ half-is_node height index half small is =
       within_line = omega (arith, is.within_line, double);
     }
 
+-- both halves have their parent
 parent-is : (height index half : ℕ) → half / 2 ≡ index → parent_of (at height half) ≡ at (suc height) index
 parent-is height index half e = ap (λ (i : ℕ). at (height + 1) i) e ∙ ap (λ (h : ℕ). at h index) (omega arith)
 
@@ -93,11 +94,13 @@ parent-is height index half e = ap (λ (i : ℕ). at (height + 1) i) e ∙ ap (�
 abbrev Ends : ℕ → ℕ → NodeValue → Type 0
 Ends a b node = node.height < 32 → ¬ LiesWithin a b (parent_of node)
 
+-- a half ends inside where its node doesn't
 half-ends : (a b height index half : ℕ) → half / 2 ≡ index → (a ≤ low_of (at (suc height) index) → high_of (at (suc height) index) ≤ b → ⊥) → Ends a b (at height half)
 half-ends a b height index half e out short within =
     let whole : LiesWithin a b (at (suc height) index) = subst (LiesWithin a b) (parent-is height index half e) within in
     out whole.after whole.before
 
+-- the pieces among a node, by its place
 in_place : (a b height index : ℕ) → IsNode (at height index) → Ends a b (at height index)
     → ((a ≤ low_of (at height index) → high_of (at height index) ≤ b → ⊥) → All (IsPiece a b) (pieces_inside a b Across height index))
     → All (IsPiece a b) (pieces_at a b height index)
@@ -127,6 +130,7 @@ record Meets (a b start end from to : ℕ) : Type 0 where
   begins : from ≡ max a start
   ends : to ≡ min b end
 
+-- an empty list adjoins from a place to itself
 adjoin-none : (from to : ℕ) (nodes : List NodeValue) → from ≡ to → nodes ≡ [] → Adjoin from to nodes
 adjoin-none from to nodes same e = subst (Adjoin from to) (sym e) same
 
@@ -182,14 +186,17 @@ inside-adjoin a b (suc height) index from to m =
     ])
 
 -- ---- all of them
+-- the pieces begin at a, adjoin, and end at b
 pub pieces_of-adjoin : (a b : ℕ) → a ≤ b → b ≤ 2 ^ 32 → Adjoin a b (pieces_of a b)
 pieces_of-adjoin a b forward end = inside-adjoin a b 32 0 a b (record { forward = forward; begins = omega arith; ends = omega arith })
 
+-- they are all maximal nodes in [a, b)
 pub pieces_of-are : (a b : ℕ) → a ≤ b → b ≤ 2 ^ 32 → IsPieces a b (pieces_of a b)
 pieces_of-are a b forward end =
     pieces-from_adjoin a b (pieces_of a b) (pieces_of-adjoin a b forward end)
     (inside-are_pieces a b 32 0 (record { within_height = omega arith; within_line = omega arith }) (λ short within. omega arith))
 
+-- a list of all maximal nodes in [a, b) by rising start is this one
 pub pieces-are : (a b : ℕ) (nodes : List NodeValue) → a ≤ b → b ≤ 2 ^ 32 → IsPieces a b nodes → nodes ≡ pieces_of a b
 pieces-are a b nodes forward end are =
     let all = pieces_of-are a b forward end in

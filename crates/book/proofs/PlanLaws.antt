@@ -27,8 +27,11 @@ use Rattle.book.proofs.RowJoins.{moves_in, forward, adjoin-forward, no-rows, mov
 
 -- a plan for the rows of version v in this node
 pub record IsFor (extent : Extent) (edits : List Accepted) (v : ℕ) (node : NodeValue) (plan : Plan) : Type 0 where
+  -- its node
   pub node_is : node_of plan ≡ node
+  -- it stands for the rows of its node, and all plans inside it for those of theirs
   pub rows : AreForRows edits v plan
+  -- its hits are of the extent, its leaves have rows of their nodes, and its splits both halves
   pub valid : IsValid extent plan
 
 -- of a plan and those inside it, the plan itself
@@ -135,6 +138,7 @@ module _ (extent : Extent) (edits : List Accepted) (v : ℕ) where
     node-for node false zero many many-for plan is = unit-for node plan is
     node-for node false (suc n) many many-for plan is = few-for node (nat_le (suc n) 8) (suc n) many many-for plan is
 
+    -- a plan that follows the visit of a node is one for its rows
     pub visit-for : (pairs : List Pair) (height index : ℕ) (plan : Plan) → IsPlanOf extent edits v (visited edits v pairs height index) plan
         → IsFor extent edits v (record { index = index; height = height }) plan
     visit-for pairs zero index plan is =
@@ -213,16 +217,20 @@ module _ (extent : Extent) (edits : List Accepted) (v : ℕ) (pairs : List Pair)
   walk-for : AllZip (IsFor extent edits v) (pieces_of a b) plans
   walk-for = visits-for extent edits v order moves pairs (pieces_of a b) plans are
 
+  -- each plan of the walk is one for the rows of its node
   pub plans-each : All (AreForRows edits v) plans
   plans-each = nodes-each extent edits v (pieces_of a b) plans walk-for
 
+  -- each is valid
   pub plans-valid : All (IsValid extent) plans
   plans-valid = nodes-valid extent edits v (pieces_of a b) plans walk-for
 
   module _ (adjoin : Adjoin a b (pieces_of a b)) where
+    -- together they stand for the rows in [a, b)
     pub plans-stand : PlansStand plans (moves_of (rows_in a b (rows_at edits v)))
     plans-stand = nodes-stand extent edits v order a b (pieces_of a b) plans walk-for adjoin
 
+    -- and weigh what these do
     pub plans-weigh : total_weight plans ≡ weight (moves_of (rows_in a b (rows_at edits v)))
     plans-weigh = nodes-weigh extent edits v order a b (pieces_of a b) plans walk-for adjoin
 

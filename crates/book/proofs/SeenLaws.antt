@@ -1,5 +1,5 @@
 -- What is seen along a play never gets older, and pending looks stay.
-use Rattle.std.proofs.Common.{◌≡◌, ◌≢◌, ◌∙◌, ℕ, zero, suc, ◌+◌, ◌-◌, ◌<◌, ◌≤◌, refl, sym, ap, subst, arith, cond, List, [], ◌∷◌, ◌++◌, length, Option, Some, None, Bool, inl, inr, get_or}
+use Rattle.std.proofs.Common.{◌≡◌, ◌≢◌, ◌∙◌, ℕ, ◌+◌, ◌-◌, ◌≤◌, refl, sym, ap, subst, arith, cond, List, [], ◌∷◌, ◌++◌, length, Option, Some, None, Bool, inl, inr}
 use Rattle.std.specs.Prelude.{All, AllPairs, unwrap_or}
 use Rattle.std.proofs.lemmas.Bool.{cases_Bool}
 use Rattle.std.proofs.lemmas.List.{get_or-set_other, length-append}
@@ -8,21 +8,21 @@ use Rattle.std.proofs.lemmas.List.Kept.{AllPairs-cons}
 use Rattle.versions.specs.declared.edit.Edit.{Edit}
 use Rattle.versions.specs.declared.edit.Edit.TheVariants.{Append, Correct, Remove}
 use Rattle.versions.specs.declared.edit.EditReply.{EditReply}
-use Rattle.versions.specs.declared.edit.EditReply.TheVariants.{Done, NameTaken, NoRow}
+use Rattle.versions.specs.declared.edit.EditReply.TheVariants.{Done}
 use Rattle.versions.specs.declared.log.Accepted.{Accepted}
 use Rattle.versions.specs.Versions.{accepts, current_rows, edit_reply, after_edit, refusal}
 use Rattle.book.specs.declared.query.Query.{Query}
 use Rattle.book.specs.declared.step.LookReply.{LookReply}
 use Rattle.book.specs.declared.step.LookReply.TheVariants.{Found, NoVersion, Pair, Level, Overflow}
-use Rattle.book.specs.declared.step.Step.{Step}
 use Rattle.book.specs.Play.{State, Request, Editing, Looking, Settling, PendingLook, after, after_found, step_of, steps_of, played, look_refusal, look_reply, found, unless_refused, pending_of, pending_with}
 use Rattle.book.specs.Seen.{asker, edit_version, look_version, seen_in, versions_seen}
 use Rattle.book.proofs.BookLaws.{longer}
-use Rattle.book.proofs.EditLaws.{after-accepted, after-refused, taken}
+use Rattle.book.proofs.EditLaws.{after-accepted, taken}
 use Rattle.book.proofs.LookLaws.{refused-never_found}
 
 -- ---- edits are only added
-unless-edits : (refusal : Option LookReply) (old new : State) → new.edits ≡ old.edits → (unless_refused refusal old new).edits ≡ old.edits
+-- a look keeps the edits, refused or not
+pub unless-edits : (refusal : Option LookReply) (old new : State) → new.edits ≡ old.edits → (unless_refused refusal old new).edits ≡ old.edits
 unless-edits None old new same = same
 unless-edits (Some reply) old new same = refl
 
@@ -81,6 +81,7 @@ record Rises (low : ℕ) (versions : List ℕ) : Type 0 where
   above : All (λ v. low ≤ v) versions
   pairs : AllPairs (λ v w. v ≤ w) versions
 
+-- one step's versions before those of the others
 rises-after : (low high : ℕ) (shown versions : List ℕ) → low ≤ high → Shown low high shown → Rises high versions → Rises low (shown ++ versions)
 rises-after low high shown versions le (Nothing e) rises = subst (λ (vs : List ℕ). Rises low (vs ++ versions)) (sym e) (record {
   above = All-weaker (λ v. high ≤ v) (λ v. low ≤ v) (λ v above. omega (arith, le, above)) versions rises.above;
@@ -97,6 +98,7 @@ play-rises capacity state (request ∷ requests) =
     rises-after (length state.edits) (length (after capacity state request).edits) (seen_in (step_of state request)) (versions_seen (steps_of capacity (after capacity state request) requests))
     (later-longer capacity state request) (step-shows capacity state request) (play-rises capacity (after capacity state request) requests)
 
+-- versions in the replies of a play never fall
 pub versions-rise : (capacity : ℕ) (state : State) (requests : List Request) → AllPairs (λ v w. v ≤ w) (versions_seen (steps_of capacity state requests))
 versions-rise capacity state requests = (play-rises capacity state requests).pairs
 
@@ -111,11 +113,13 @@ unless-pending by session (Some reply) old new same = refl
 abbrev IsOther : ℕ → Request → Type 0
 IsOther session request = (1 ≤ asker request) × (asker request ≢ session)
 
+-- the request of another session leaves this session's pending look
 pub pending-stays : (capacity session : ℕ) (state : State) (request : Request) → 1 ≤ session → (1 ≤ asker request) × (asker request ≢ session) → pending_of session (after capacity state request).pending ≡ pending_of session state.pending
 pending-stays capacity session state (Editing by edit) one others = refl
 pending-stays capacity session state (Looking by q) one others = unless-pending by session (look_refusal state.edits q) state (after_found by q state) (other-place by session _ state.pending others.0 one others.1)
 pending-stays capacity session state (Settling by) one others = other-place by session None state.pending others.0 one others.1
 
+-- so do any number of them
 pub pending-stays_long : (capacity session : ℕ) (state : State) (requests : List Request) → 1 ≤ session → All (λ request. (1 ≤ asker request) × (asker request ≢ session)) requests
     → pending_of session (played capacity state requests).pending ≡ pending_of session state.pending
 pending-stays_long capacity session state [] one others = refl

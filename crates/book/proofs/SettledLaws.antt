@@ -1,5 +1,5 @@
 -- Nodes that are settled, one after another.
-use Rattle.std.proofs.Common.{◌≡◌, ◌∙◌, ℕ, ◌+◌, ◌<◌, ◌≤◌, refl, sym, ap, subst, arith, List, [], ◌∷◌, ◌++◌, length, take, get_or, cond, not, true, false, append-nil}
+use Rattle.std.proofs.Common.{◌≡◌, ◌∙◌, ℕ, ◌+◌, ◌<◌, ◌≤◌, sym, ap, subst, arith, List, [], ◌∷◌, ◌++◌, length, take, get_or, cond, not, true, false, append-nil}
 use Rattle.std.specs.Prelude.{map, All}
 use Rattle.std.specs.Arc.{arc_value}
 use Rattle.std.proofs.lemmas.List.{map_more, length_push, get_or-map, length-map}
@@ -17,18 +17,20 @@ use Rattle.book.specs.Books.{Keeps, AreKept, held}
 use Rattle.book.proofs.PastLaws.{keeps-settled}
 use Rattle.book.proofs.HeldLaws.{held-kept, kept-kept}
 
+-- the nodes that were solved, in their order
 abbrev pub nodes_of : List SolvedNode → List NodeValue
 nodes_of solved = map (λ s. s.node) solved
 
 -- these nodes are settled at version v, so many of them kept
 pub record IsSettledTo (log : LogValue) (v : ℕ) (old : CacheValue) (solved : List SolvedNode) (count : ℕ) (new : CacheValue) : Type 0 where
+  -- so many are kept
   pub count_is : count ≡ length (settled_nodes log.edits v (nodes_of solved))
+  -- their pairs go to the front, one after another, and past the capacity the last one goes each time
   pub pairs_are : held new.entries ≡ with_settled old.capacity log.edits v (settled_nodes log.edits v (nodes_of solved)) (held old.entries)
+  -- each entry has the signature of its rows
   pub are_kept : AreKept log new.entries
+  -- the capacity stays
   pub capacity_is : new.capacity ≡ old.capacity
-
-pub settled-first : (log : LogValue) (v : ℕ) (old : CacheValue) → AreKept log old.entries → IsSettledTo log v old [] 0 old
-settled-first log v old are = record { count_is = refl; pairs_are = refl; are_kept = are; capacity_is = refl }
 
 module _ (log : LogValue) (v : ℕ) (old : CacheValue) (solved : List SolvedNode) (i : ℕ) (s : SolvedNode) (within : i < length solved) (at : s ≡ get_or solved i s) where
   more : settled_nodes log.edits v (nodes_of (take (i + 1) solved)) ≡ settled_nodes log.edits v (nodes_of (take i solved)) ++ settled_nodes log.edits v (s.node ∷ [])
@@ -63,6 +65,7 @@ module _ (log : LogValue) (v : ℕ) (old : CacheValue) (solved : List SolvedNode
         let is_node : IsNode s.node = subst (λ (n : SolvedNode). IsNode n.node) (sym at) (All-get_or (λ (n : SolvedNode). IsNode n.node) solved i s within nodes) in
         keeps-settled log v s.node (arc_value s.sig) is_log back is_node recent (subst Is (sym at) (All-get_or Is solved i s within signatures))
 
+    -- a node that wasn't touched long ago goes to the front with its signature
     pub settled-recent : (from : ℕ) (sig : SigValue) (count : ℕ) (new after : CacheValue) → IsSettledTo log v old (take i solved) count new → is_past log.edits s.node v ≡ false
         → from ≡ since (low_of s.node) (high_of s.node) log.edits v → sig ≡ arc_value s.sig
         → after ≡ record { capacity = new.capacity; entries = kept s.node from sig new.capacity new.entries }

@@ -1,5 +1,5 @@
 -- The last version that touches an interval.
-use Rattle.std.proofs.Common.{◌≡◌, ◌∙◌, ℕ, zero, suc, ◌+◌, ◌-◌, ◌<◌, ◌≤◌, refl, sym, ap, subst, arith, Bool, true, false, T, cond, add-one, List, [], ◌∷◌, ◌++◌, length, get_or, inl, inr}
+use Rattle.std.proofs.Common.{◌≡◌, ◌∙◌, ℕ, zero, suc, ◌<◌, ◌≤◌, refl, sym, ap, subst, arith, true, false, T, cond, add-one, List, [], ◌++◌, length, get_or, inl, inr}
 use Rattle.std.proofs.lemmas.Bool.{cases_lt, cases_Bool}
 use Rattle.std.proofs.lemmas.Bool.Decides.{nat_tests}
 use Rattle.std.proofs.lemmas.List.{get_or_append_left, length-append}
@@ -10,12 +10,15 @@ use Rattle.versions.specs.Versions.{touched, since}
 use Rattle.versions.proofs.TouchLaws.{touched-next}
 
 module _ (a b : ℕ) (edits : List Accepted) where
+  -- a version that touches the interval is its own last one
   pub since-touches : (v : ℕ) → touched a b edits (suc v) ≡ true → since a b edits (suc v) ≡ suc v
   since-touches v touches = ap (λ t. cond t (suc v) (since a b edits v)) touches
 
+  -- a version that doesn't has the last one of the version before
   pub since-passes : (v : ℕ) → touched a b edits (suc v) ≡ false → since a b edits (suc v) ≡ since a b edits v
   since-passes v passes = ap (λ t. cond t (suc v) (since a b edits v)) passes
 
+  -- the last one is no later than the version
   pub since-le : (v : ℕ) → since a b edits v ≤ v
   since-le zero = omega arith
   since-le (suc v) =
@@ -33,6 +36,7 @@ module _ (a b : ℕ) (edits : List Accepted) where
         | inr passes ↦ (ap (since a b edits) (since-passes v passes) ∙ since-latest v ∙ sym (since-passes v passes))
       ]
 
+  -- the last one touches the interval, unless it is 0
   pub since-touched : (v : ℕ) → 0 < since a b edits v → touched a b edits (since a b edits v) ≡ true
   since-touched zero some = absurd (omega (arith, some))
   since-touched (suc v) some =
@@ -56,6 +60,7 @@ module _ (a b : ℕ) (edits : List Accepted) where
       ]
 
 -- ---- more edits
+-- what is read past the end of the edits
 pub no_edit : Accepted
 no_edit = record { edit = Remove []; tick = 0 }
 

@@ -105,12 +105,14 @@ module _ (edits : List Accepted) (v : ℕ) (pairs : List Pair) where
   visit-is : (node : NodeValue) → visit_of edits v pairs node ≡ chosen node (is_kept (pair_at edits v node) pairs) (count_at edits v node) (rest node.height node.index)
   visit-is node = visited-is node.height node.index
 
+  -- a node whose pair is kept is a hit
   pub visit-hit : (node : NodeValue) → is_kept (pair_at edits v node) pairs ≡ true → visit_of edits v pairs node ≡ Hit node
   visit-hit node kept = visit-is node ∙ ap (λ t. chosen node t (count_at edits v node) (rest node.height node.index)) kept
 
   visit-absent : (node : NodeValue) → is_kept (pair_at edits v node) pairs ≡ false → visit_of edits v pairs node ≡ absent node (count_at edits v node) (rest node.height node.index)
   visit-absent node other = visit-is node ∙ ap (λ t. chosen node t (count_at edits v node) (rest node.height node.index)) other
 
+  -- another node without rows is visited as one
   pub visit-unit : (node : NodeValue) → is_kept (pair_at edits v node) pairs ≡ false → count_at edits v node ≡ 0 → visit_of edits v pairs node ≡ Unit node
   visit-unit node other none = visit-absent node other ∙ ap (λ n. absent node n (rest node.height node.index)) none
 
@@ -122,6 +124,7 @@ module _ (edits : List Accepted) (v : ℕ) (pairs : List Pair) where
   absent-many node zero many lots = absurd (omega arith)
   absent-many node (suc n) many lots = ap (λ t. cond t (Leaf node (suc n)) many) (lt-leb (suc n) 8 lots)
 
+  -- another node with at most 8 rows is a leaf
   pub visit-few : (node : NodeValue) → is_kept (pair_at edits v node) pairs ≡ false → 0 < count_at edits v node → count_at edits v node ≤ 8 → visit_of edits v pairs node ≡ Leaf node (count_at edits v node)
   visit-few node other some few = visit-absent node other ∙ absent-few node (count_at edits v node) (rest node.height node.index) some few
 
@@ -129,6 +132,7 @@ module _ (edits : List Accepted) (v : ℕ) (pairs : List Pair) where
   rest-tick zero index none = refl
   rest-tick (suc height) index none = absurd (omega arith)
 
+  -- so is a node of one tick, with however many rows
   pub visit-tick : (node : NodeValue) → is_kept (pair_at edits v node) pairs ≡ false → 8 < count_at edits v node → node.height ≡ 0 → visit_of edits v pairs node ≡ Leaf node (count_at edits v node)
   visit-tick node other lots tick =
       visit-absent node other ∙ absent-many node (count_at edits v node) (rest node.height node.index) lots ∙ rest-tick node.height node.index tick
@@ -159,11 +163,13 @@ no_half r node half is none =
 
 -- ---- plans
 module _ (extent : Extent) (edits : List Accepted) (v : ℕ) (pairs : List Pair) (node : NodeValue) where
+  -- the plan of a leaf has its rows
   pub plan-leaf : (rows : List RowValue) → IsNode node → rows ≡ node_rows edits v node → visit_of edits v pairs node ≡ Leaf node (count_at edits v node)
       → IsPlanOf extent edits v (visit_of edits v pairs node) (LeafPlan node rows)
   plan-leaf rows is rows_are visit =
       subst (λ (w : Visit). IsPlanOf extent edits v w (LeafPlan node rows)) (sym visit) (refl, is, rows_are, ap length (sym rows_are))
 
+  -- the plan of a split has those of its halves
   pub plan-split : (left right : NodeValue) (first second : Box Plan Global) → IsNode node → visit_of edits v pairs node ≡ Split node (visit_of edits v pairs left) (visit_of edits v pairs right)
       → IsPlanOf extent edits v (visit_of edits v pairs left) first.value → IsPlanOf extent edits v (visit_of edits v pairs right) second.value
       → IsPlanOf extent edits v (visit_of edits v pairs node) (SplitPlan node first second)
@@ -171,9 +177,11 @@ module _ (extent : Extent) (edits : List Accepted) (v : ℕ) (pairs : List Pair)
       subst (λ (w : Visit). IsPlanOf extent edits v w (SplitPlan node first second)) (sym visit) (refl, is, first_is, second_is)
 
 module _ (log : LogValue) (entries : List Entry) (v s : ℕ) (node : NodeValue) (same : s ≡ since (low_of node) (high_of node) log.edits v) where
+  -- where the cache finds the node's entry, the pair is kept
   pub kept-at : (sig : SigValue) → sig_of node s entries ≡ Some sig → is_kept (pair_at log.edits v node) (held entries) ≡ true
   kept-at sig found = ap (λ (u : ℕ). is_kept (record { node = node; since = u }) (held entries)) (sym same) ∙ found-is_kept node s entries sig found
 
+  -- where it finds none, the pair isn't
   pub not_kept-at : sig_of node s entries ≡ None → is_kept (pair_at log.edits v node) (held entries) ≡ false
   not_kept-at none = ap (λ (u : ℕ). is_kept (record { node = node; since = u }) (held entries)) (sym same) ∙ unfound-isnt_kept node s entries none
 
@@ -196,11 +204,13 @@ module _ (log : LogValue) (entries : List Entry) (v s : ℕ) (node : NodeValue) 
   half-untouched half within after before =
       since-inside (low_of node) (high_of node) (low_of half) (high_of half) log.edits v within after before ∙ ap (since (low_of half) (high_of half) log.edits) (sym same)
 
+  -- the left half was last touched, up to v, when it was up to the node's own version: nothing touched the node later
   pub left-untouched : 0 < node.height → v ≤ length log.edits → since (low_of (left_of node)) (high_of (left_of node)) log.edits v ≡ since (low_of (left_of node)) (high_of (left_of node)) log.edits s
   left-untouched some within =
       let share = halves-share node some in
       half-untouched (left_of node) within (omega (arith, share.begins)) (omega (arith, share.meets, share.ends, low-lt-high (right_of node)))
 
+  -- so was the right half
   pub right-untouched : 0 < node.height → v ≤ length log.edits → since (low_of (right_of node)) (high_of (right_of node)) log.edits v ≡ since (low_of (right_of node)) (high_of (right_of node)) log.edits s
   right-untouched some within =
       let share = halves-share node some in

@@ -23,9 +23,11 @@ module _ (visit : NodeValue → Visit) (nodes : List NodeValue) (i : ℕ) (node 
   pub plans-more : (R : Visit → Plan → Type 0) (plans : List Plan) (plan : Plan) → AllZip R (map visit (take i nodes)) plans → R (visit node) plan → AllZip R (map visit (take (i + 1) nodes)) (plans ++ plan ∷ [])
   plans-more R plans plan all last = subst (λ visits. AllZip R visits (plans ++ plan ∷ [])) (sym visits-more) (AllZip-push R (map visit (take i nodes)) plans (visit node) plan all last)
 
+  -- one node more adds its own visits
   pub count-more : sum_by visits_of (map visit (take (i + 1) nodes)) ≡ sum_by visits_of (map visit (take i nodes)) + visits_of (visit node)
   count-more = ap (sum_by visits_of) visits-more ∙ sum_by_push visits_of (map visit (take i nodes)) (visit node)
 
+  -- so far there are no more visits than in all
   pub count-within : sum_by visits_of (map visit (take i nodes)) + visits_of (visit node) ≤ sum_by visits_of (map visit nodes)
   count-within =
       let all : map visit (take (i + 1) nodes) ≡ take (i + 1) (map visit nodes) = sym (take-map visit (i + 1) nodes) in

@@ -1,7 +1,8 @@
 -- Books: their steps are those of the play, and what they keep is true.
-use Rattle.std.specs.Prelude.{◌≡◌, ℕ, ◌+◌, ◌<◌, ◌≤◌, ◌^◌, Bool, false, nat_eq, List, [], ◌∷◌, ◌++◌, All, map, filter, length, replicate, Option, Some, None, is_some}
+use Rattle.std.specs.Prelude.{◌≡◌, ℕ, ◌<◌, ◌≤◌, ◌^◌, Bool, false, nat_eq, List, [], ◌∷◌, ◌++◌, All, map, filter, length, Option, Some, None}
 use Rattle.definitions.specs.Words.{Extent}
-use Rattle.dyadic.specs.Nodes.{NodeValue, IsNode, low_of, high_of}
+use Rattle.words.specs.Capacities.{most_capacity}
+use Rattle.dyadic.specs.Nodes.{IsNode, low_of, high_of}
 use Rattle.node_cache.specs.Entries.{Entry, CacheValue}
 use Rattle.versions.specs.declared.log.Accepted.{Accepted}
 use Rattle.versions.specs.Versions.{LogValue, since}
@@ -23,6 +24,7 @@ pub record BookValue : Type 0 where
 abbrev pub state_of : BookValue → State
 state_of book = played book.capacity (opening book.sessions) (map request_of book.history)
 
+-- the sessions have the numbers from 1
 pub record IsSession (sessions session : ℕ) : Type 0 where
   pub some : 1 ≤ session
   pub within : session ≤ sessions
@@ -34,7 +36,7 @@ count_of session history = length (filter (λ step. nat_eq session (session_of s
 -- the replies of the history are those of the play
 pub record IsBook (book : BookValue) : Type 0 where
   pub some : 1 ≤ book.capacity
-  pub within : book.capacity ≤ 16384
+  pub within : book.capacity ≤ most_capacity
   pub one : 1 ≤ book.sessions
   pub few : book.sessions ≤ 16
   pub due : book.history ≡ steps_of book.capacity (opening book.sessions) (map request_of book.history)
@@ -42,9 +44,11 @@ pub record IsBook (book : BookValue) : Type 0 where
   pub steps : (session : ℕ) → count_of session book.history ≤ 2 ^ 32
 
 -- ---- what is kept
+-- the node and the version of an entry
 abbrev pub pair_of : Entry → Pair
 pair_of e = record { node = e.node; since = e.since }
 
+-- the pairs of the entries, in their order
 abbrev pub held : List Entry → List Pair
 held entries = map pair_of entries
 
@@ -56,6 +60,7 @@ pub record Keeps (extent : Extent) (edits : List Accepted) (e : Entry) : Type 0 
   pub recent : is_past edits e.node e.since ≡ false
   pub signature : HasSignature extent edits e.since e.node e.sig
 
+-- this holds for each entry
 abbrev pub AreKept : LogValue → List Entry → Type 0
 AreKept log entries = All (Keeps log.extent log.edits) entries
 
@@ -64,10 +69,12 @@ pub record IsPending (edits : List Accepted) (look : PendingLook) : Type 0 where
   pub version : look.version ≤ length edits
   pub nodes : All IsNode look.missed
 
+-- what is said of a look that is pending; where none is, nothing
 abbrev pub IsPendingOr : List Accepted → Option PendingLook → Type 0
 IsPendingOr edits None = Unit {0}
 IsPendingOr edits (Some look) = IsPending edits look
 
+-- this holds for each session
 abbrev pub ArePending : List Accepted → List (Option PendingLook) → Type 0
 ArePending edits pending = All (IsPendingOr edits) pending
 
@@ -81,6 +88,7 @@ pub record IsHeld (log : LogValue) (cache : CacheValue) (pending : List (Option 
   pub of_versions : ArePending log.edits pending
 
 -- ---- conditions of a step
+-- the session may do a step more: the book isn't spent, and its steps can be counted
 pub record IsReady (book : BookValue) (session : ℕ) : Type 0 where
   pub unspent : book.spent ≡ false
   pub of_book : IsSession book.sessions session

@@ -3,10 +3,8 @@ use Rattle.std.specs.Prelude.{◌≡◌, ℕ, true, ◌≤◌, ◌^◌, List, Al
 use Rattle.definitions.specs.Words.{Extent}
 use Rattle.definitions.specs.Rows.{moves_of}
 use Rattle.definitions.specs.Signature.{limit}
-use Rattle.versions.specs.Versions.{LogValue}
 use Rattle.solve.specs.Plans.{PlansStand}
 use Rattle.solve.specs.Works.{WorkValue}
-use Rattle.solve.specs.declared.plan.Plan.{Plan}
 use Rattle.book.specs.declared.query.Query.{Query}
 use Rattle.book.specs.declared.query.Allowed.{Allowed}
 use Rattle.book.specs.declared.query.Allowed.TheVariants as allowed
@@ -20,6 +18,7 @@ use Rattle.book.specs.Walks.{Visit, visits_of}
 use Rattle.book.specs.Plans.{ArePlansOf, AreForRows}
 use Rattle.book.specs.Play.{State, looked_version, looked_rows, look_refusal, look_walk, fits_from}
 
+-- an interval of the line of time that doesn't end before it begins, at a resolution of at most 16
 pub record IsQuery (q : Query) : Type 0 where
   pub forward : q.from ≤ q.to
   pub end : q.to ≤ 2 ^ 32
@@ -51,6 +50,7 @@ abbrev pub visits_unless : Option LookReply → List Visit → ℕ
 visits_unless None visits = sum_by visits_of visits
 visits_unless (Some reply) visits = 0
 
+-- how many nodes the look of a query visits, halves too
 abbrev pub look_visits : State → Query → ℕ
 look_visits state q = visits_unless (look_refusal state.edits q) (look_walk state q)
 

@@ -1,5 +1,5 @@
 -- Plans for the nodes that a walk visits, and what they stand for.
-use Rattle.std.specs.Prelude.{◌≡◌, ℕ, List, [], ◌∷◌, All, ⊤, map, length}
+use Rattle.std.specs.Prelude.{◌≡◌, ℕ, List, [], All, map, length}
 use Rattle.std.specs.List.{AllZip}
 use Rattle.std.specs.Arc.{arc_value}
 use Rattle.definitions.specs.Words.{Extent}
@@ -31,6 +31,7 @@ IsPlanOf extent edits v (Leaf at count) (LeafPlan node rows) = (node ≡ at) × 
 IsPlanOf extent edits v (Split at first second) (SplitPlan node p left q right) = (node ≡ at) × IsNode at × IsPlanOf extent edits v first left × IsPlanOf extent edits v second right
 IsPlanOf extent edits v _ _ = ⊥
 
+-- each plan follows its visit, one after the other
 abbrev pub ArePlansOf : Extent → List Accepted → ℕ → List Visit → List Plan → Type 0
 ArePlansOf extent edits v visits plans = AllZip (IsPlanOf extent edits v) visits plans
 

@@ -1,5 +1,5 @@
 -- The versions that sessions see.
-use Rattle.std.specs.Prelude.{ℕ, List, [], ◌∷◌, ◌++◌, flat_map, Option, Some, None}
+use Rattle.std.specs.Prelude.{ℕ, List, [], ◌∷◌, flat_map, Option, None}
 use Rattle.versions.specs.declared.edit.EditReply.{EditReply}
 use Rattle.versions.specs.declared.edit.EditReply.TheVariants.{Done, NameTaken, NoRow}
 use Rattle.book.specs.declared.step.LookReply.{LookReply}
@@ -14,6 +14,7 @@ asker (Editing session edit) = session
 asker (Looking session q) = session
 asker (Settling session) = session
 
+-- the version in the reply to an edit
 abbrev pub edit_version : EditReply → ℕ
 edit_version (Done version) = version
 edit_version (NameTaken version) = version
@@ -30,5 +31,6 @@ seen_in (Edited session edit reply) = edit_version reply ∷ []
 seen_in (Looked session q reply) = look_version q.version reply
 seen_in (Settled session kept) = []
 
+-- the versions in the replies of these steps, in their order
 abbrev pub versions_seen : List Step → List ℕ
 versions_seen steps = flat_map seen_in steps

@@ -1,8 +1,8 @@
 -- The walk of an interval's pieces at a version, over the pairs that are kept.
-use Rattle.std.specs.Prelude.{ℕ, zero, suc, ◌+◌, ◌*◌, Bool, ◌&&◌, nat_eq, nat_le, if◌then◌else◌, List, [], ◌∷◌, ◌++◌, map, flat_map, sum_by, length}
+use Rattle.std.specs.Prelude.{ℕ, zero, suc, ◌+◌, ◌*◌, Bool, ◌&&◌, nat_eq, nat_le, if◌then◌else◌, List, [], ◌∷◌, ◌++◌, map, flat_map, length}
 use Rattle.std.specs.List.{list_any}
 use Rattle.definitions.specs.Rows.{rows_in}
-use Rattle.dyadic.specs.Nodes.{NodeValue, low_of, high_of, left_of, right_of}
+use Rattle.dyadic.specs.Nodes.{NodeValue, low_of, high_of}
 use Rattle.versions.specs.declared.log.Accepted.{Accepted}
 use Rattle.versions.specs.Versions.{rows_at, since}
 
@@ -13,6 +13,7 @@ pub data Place : Type 0 where
   Outside : Place
   Across : Place
 
+-- the place of a node; one that ends at a or begins at b is outside
 abbrev pub place_of : ℕ → ℕ → NodeValue → Place
 place_of a b node =
     if nat_le a (low_of node) && nat_le (high_of node) b then Inside
@@ -39,9 +40,11 @@ pub record Pair : Type 0 where
   pub node : NodeValue
   pub since : ℕ
 
+-- both are of the same node and version
 abbrev pub is_pair : Pair → Pair → Bool
 is_pair p q = nat_eq p.node.index q.node.index && nat_eq p.node.height q.node.height && nat_eq p.since q.since
 
+-- the pair is one of these
 abbrev pub is_kept : Pair → List Pair → Bool
 is_kept pair pairs = list_any (is_pair pair) pairs
 
@@ -65,10 +68,14 @@ pub data Visit : Type 0 where
   -- its left half and its right half are visited
   Split : NodeValue → Visit → Visit → Visit
 
--- a node that isn't kept, with so many rows; where there are more than 8, the visit is the last one
+-- the most rows of a leaf, but where the node is of one tick
+abbrev pub leaf_rows : ℕ
+leaf_rows = 8
+
+-- a node that isn't kept, with so many rows; where there are more than a leaf has, the visit is the last one
 abbrev pub absent : NodeValue → ℕ → Visit → Visit
 absent node zero many = Unit node
-absent node (suc n) many = if nat_le (suc n) 8 then Leaf node (suc n) else many
+absent node (suc n) many = if nat_le (suc n) leaf_rows then Leaf node (suc n) else many
 
 -- the visit of a node of this height at version v
 abbrev pub visited : List Accepted → ℕ → List Pair → ℕ → ℕ → Visit
@@ -81,6 +88,7 @@ visited edits v pairs (suc height) index =
     if is_kept (pair_at edits v node) pairs then Hit node
     else absent node (count_at edits v node) (Split node (visited edits v pairs height (2 * index)) (visited edits v pairs height (2 * index + 1)))
 
+-- the visit of a node at version v, with its halves where they are visited
 abbrev pub visit_of : List Accepted → ℕ → List Pair → NodeValue → Visit
 visit_of edits v pairs node = visited edits v pairs node.height node.index
 
@@ -117,8 +125,10 @@ visits_of (Unit node) = 1
 visits_of (Leaf node rows) = 1
 visits_of (Split node left right) = 1 + visits_of left + visits_of right
 
+-- the hits of all visits, in their order
 abbrev pub all_hits : List Visit → List NodeValue
 all_hits visits = flat_map hits_of visits
 
+-- the misses of all visits, in their order
 abbrev pub all_misses : List Visit → List NodeValue
 all_misses visits = flat_map misses_of visits

@@ -8,14 +8,14 @@ use crate::look::Look;
 use crate::pending::Pending;
 use crate::query::Query;
 use crate::step::Step;
-use crate::{editing, looking, settle};
+use crate::{edit_step, look_step, settle_step};
 use node_cache::NodeCache;
 use solve::Solved;
 use std::alloc::Global;
 use std::marker::Model;
 use std::sync::ledger::Ledger;
 use versions::{Edit, EditReply, Stream};
-use words::{Memory, Shape, Steps};
+use words::{Capacity, Memory, Shape, Steps};
 
 /// The edits, looks and settles of 1 to 16 sessions, one after another, over one stream and one cache of nodes. Seen as the list of the
 /// steps that were taken, from which all that it keeps can be told.
@@ -44,13 +44,17 @@ impl Model for Book {
 
 impl Book {
     /// A book without steps. Its cache keeps so many nodes at most, from 1 to 16,384.
-    pub fn new(alloc: Global, shape: Shape, capacity: u32, sessions: u32) -> Result<Book, Memory>
-        requires some { 1 ≤ capacity }
-        requires within { capacity ≤ 16384 }
+    pub fn new(
+        alloc: Global,
+        shape: Shape,
+        capacity: Capacity,
+        sessions: u32,
+    ) -> Result<Book, Memory>
         requires one { 1 ≤ sessions }
         requires few { sessions ≤ 16 }
         ensures { IfOk result (λ b. b ≡ record { extent = shape; capacity = capacity; sessions = sessions; history = []; spent = false }) }
     {
+        let _nodes = capacity.get();
         let cache = NodeCache::new(alloc, capacity)?;
         let mut pending = Vec::new(alloc);
         for _session in 0..sessions {
@@ -104,7 +108,7 @@ impl Book {
         ensures ok { OnOk result (self.new ≡ with_request (Editing session e.now) self.old) }
         ensures err { OnErr result (self.new ≡ self.old) }
     {
-        editing::edit(
+        edit_step::edit(
             alloc,
             &mut self.stream,
             &mut self.cache,
@@ -114,7 +118,7 @@ impl Book {
         )
     }
 
-    /// Looks at the current version or at the named one. Takes one step for each visited node, and after want of memory at most so many;
+    /// Looks at the current version or at the named one. Takes one unit for each visited node, and after want of memory at most so many;
     /// that leaves the book as it was.
     pub fn look<L: Ledger>(
         &mut self,
@@ -133,7 +137,7 @@ impl Book {
         ensures at_most { (steps.old ≤ steps.new) × (steps.new ≤ steps.old + look_visits (state_of self.old) q) }
         ensures err { OnErr result (self.new ≡ self.old) }
     {
-        looking::look(
+        look_step::look(
             alloc,
             &self.stream,
             &mut self.cache,
@@ -154,7 +158,7 @@ impl Book {
         ensures ok { OnOk result (self.new ≡ with_request (Settling session) self.old) }
         ensures err { OnErr result (self.new ≡ record self.old { spent = true }) }
     {
-        let settled = settle::settle(
+        let settled = settle_step::settle(
             self.stream.log(),
             &mut self.cache,
             &mut self.pending,

@@ -11,8 +11,8 @@ use dyadic::Node;
 use node_cache::NodeCache;
 use versions::EditLog;
 
-/// So many edits after the one that touched its node, a pair goes.
-const SPAN: u64 = 64;
+/// A pair goes so many edits after the first one that touches its node.
+pub(crate) const SPAN: u64 = 64;
 
 /// Takes out the entries whose versions ended long ago, where none had before the last edit. That edit brings this upon nodes that hold
 /// the tick of one edit, which are walked from the coarsest one on. Takes no memory.
@@ -54,20 +54,8 @@ fn half_with(log: &EditLog, node: Node, touch: u64) -> Option<Node>
     ensures none { IfNone result (node.height ≡ 0) }
 {
     let left = node.left()?;
-    if touches(log, touch, left) {
+    if log.touches(left, touch) {
         return Some(left);
     }
     node.right()
-}
-
-/// Whether this edit has its tick in the node.
-fn touches(log: &EditLog, touch: u64, node: Node) -> bool
-    requires some { 1 ≤ touch }
-    requires within { touch ≤ length log.now.edits }
-    ensures { result ≡ touched (low_of node) (high_of node) log.now.edits touch }
-{
-    match log.touched_since(touch - 1, node) {
-        Some(first) => first == touch,
-        None => false,
-    }
 }

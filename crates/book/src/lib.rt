@@ -2,18 +2,18 @@
 #![tactic(auto)]
 
 pub mod book;
-mod editing;
+mod edit_step;
 mod expiry;
 mod hits;
+mod keeping;
 pub mod laws;
 pub mod look;
-mod looking;
+mod look_step;
 mod missed;
 pub mod pending;
 pub mod planning;
 pub mod query;
-mod settle;
-mod settling;
+mod settle_step;
 pub mod step;
 #[cfg(test)]
 mod tests;

@@ -10,12 +10,11 @@ use crate::query::{Allowed, Query};
 use crate::step::LookReply;
 use crate::walk::plans_of;
 use decompose::round;
-use increments::Rows;
 use node_cache::NodeCache;
 use solve::Plan;
 use std::alloc::Global;
 use std::sync::ledger::Ledger;
-use versions::{EditLog, Stream};
+use versions::{EditLog, RowsView, Stream};
 use words::{Memory, Steps};
 
 /// The plans of a query, or why it has no answer.
@@ -45,7 +44,7 @@ fn refusal(allowed: &Allowed, weight: u128) -> Option<LookReply>
 /// The plans of a query at the version that it asks for, which has these rows.
 fn planned_at<L: Ledger>(
     alloc: Global,
-    rows: &Rows,
+    rows: &RowsView<'_>,
     log: &EditLog,
     cache: &NodeCache,
     version: u64,
@@ -55,15 +54,14 @@ fn planned_at<L: Ledger>(
     requires query { IsQuery q.now }
     requires version { version ≤ length log.now.edits }
     requires looked { looked_version log.now.edits q.now ≡ version }
-    requires rows { rows.now ≡ record { extent = log.now.extent; rows = rows_at log.now.edits version } }
+    requires rows { rows.now ≡ rows_at log.now.edits version }
+    requires version_rows { AreVersionRows log.now.extent (rows_at log.now.edits version) }
     requires kept { AreKept log.now cache.now.entries }
     ensures planned { (pending : List (Option PendingLook)) → IfOk result (IsPlanned log.now.extent (record { edits = log.now.edits; pairs = held cache.now.entries; pending = pending }) q.now) }
     ensures ticks { (pending : List (Option PendingLook)) → OnOk result (steps.new ≡ steps.old + look_visits (record { edits = log.now.edits; pairs = held cache.now.entries; pending = pending }) q.now) }
     ensures at_most { (pending : List (Option PendingLook)) → (steps.old ≤ steps.new) × (steps.new ≤ steps.old + look_visits (record { edits = log.now.edits; pairs = held cache.now.entries; pending = pending }) q.now) }
     ensures rows { IfOk result (λ planned. looked_version log.now.edits q.now ≤ length log.now.edits → AreVersionRows log.now.extent (rows_at log.now.edits (looked_version log.now.edits q.now))) }
 {
-    prove!(rows.len() < 1 << 63);
-    prove!(rows.shape().depth() >= 1);
     let (from, to) = round(q.from, q.to, q.r);
     if let Some(reply) = refusal(&q.allowed, rows.weight_in(from, to)) {
         return Ok(Planned::Refused(reply));
@@ -72,7 +70,7 @@ fn planned_at<L: Ledger>(
     Ok(Planned::Plans(plans))
 }
 
-/// The plans of a query. Takes one step for each visited node, and after want of memory at most so many.
+/// The plans of a query. Takes one unit for each visited node, and after want of memory at most so many.
 pub fn planned_look<L: Ledger>(
     alloc: Global,
     stream: &Stream,
@@ -89,11 +87,13 @@ pub fn planned_look<L: Ledger>(
 {
     let log = stream.log();
     let Some(version) = q.version else {
-        return planned_at(alloc, stream.rows(), log, cache, stream.version(), q, steps);
+        let version = log.len();
+        let rows = log.view_at(version);
+        return planned_at(alloc, &rows, log, cache, version, q, steps);
     };
     if version > stream.version() {
         return Ok(Planned::Refused(LookReply::NoVersion(stream.version())));
     }
-    let rows = log.rows_at(alloc, version)?;
+    let rows = log.view_at(version);
     planned_at(alloc, &rows, log, cache, version, q, steps)
 }

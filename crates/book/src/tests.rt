@@ -7,6 +7,7 @@ ghost use Rattle.book.specs.Play.{pending_of};
 ghost use Rattle.book.specs.Books.{IsReady, IsFree, IsSession, IsSettledBy, IsPendingOr, state_of, log_of};
 
 use crate::{Allowed, Book, EditReply, Kind, Look, LookReply, Query, Step};
+use hall_set::HallSet;
 use increments::Name;
 use solve::{Solved, Through, solve};
 use std::alloc::Global;
@@ -16,7 +17,7 @@ use std::sync::ledger::{Blank, Ledger};
 use std::test::Fail;
 use tensor_product::Sig;
 use versions::Edit;
-use words::{Bound, Entries, Move, Shape, Steps};
+use words::{Bound, Capacity, Entries, Move, Shape, Steps};
 
 const SECOND: u64 = 65536;
 
@@ -26,6 +27,10 @@ struct Answer {
     reply: LookReply,
     kept: Option<u64>,
     sig: Option<Sig>,
+}
+
+fn capacity(nodes: u32) -> Result<Capacity, Fail> {
+    Ok(Capacity::new(nodes).ok_or("no capacity")?)
 }
 
 fn name(alloc: Global, text: &str) -> Result<Name, Fail> {
@@ -186,7 +191,8 @@ fn ask_with<L: Ledger>(
             sig: None,
         });
     };
-    let solved = solve(alloc, &work, 1, &Through, &mut steps)?;
+    let hall = HallSet::build(alloc, shape)?;
+    let solved = solve(alloc, &work, &hall, 1, &Through, &mut steps)?;
     let mut kept = None;
     if book.pending(1) {
         correct(alloc, book, shape, times)?;
@@ -251,7 +257,7 @@ fn levels_are(rt: &impl Abort, sig: &Sig, expected: &[&[i128]]) {
 fn kept_node_is_found(rt: HostRuntime) -> Result<(), Fail> {
     let alloc = rt.alloc();
     let shape = Shape::new(2, 2)?;
-    let mut book = Book::new(alloc, shape, 4096, 2)?;
+    let mut book = Book::new(alloc, shape, Capacity::usual(), 2)?;
     append(alloc, &mut book, shape, "a", 0, &[2, 3])?;
     for (hits, misses, kept) in [(0, 1, Some(1)), (1, 0, None)] {
         let q = sig(shape, 0, SECOND, None);
@@ -269,7 +275,7 @@ fn nodes_of_old_looks(rt: HostRuntime) -> Result<(), Fail> {
     let alloc = rt.alloc();
     let shape = Shape::new(1, 1)?;
     for (times, kept) in [(0, 1), (1, 1), (64, 1), (65, 0)] {
-        let mut book = Book::new(alloc, shape, 4096, 2)?;
+        let mut book = Book::new(alloc, shape, Capacity::usual(), 2)?;
         append(alloc, &mut book, shape, "a", 0, &[5])?;
         let q = sig(shape, 0, SECOND, None);
         let answer = ask(alloc, &mut book, shape, q, times)?;
@@ -284,7 +290,7 @@ fn pairs_go_after_64_versions(rt: HostRuntime) -> Result<(), Fail> {
     let alloc = rt.alloc();
     let shape = Shape::new(1, 1)?;
     for (times, hits, misses, kept) in [(64, 1, 0, None), (65, 0, 1, Some(0))] {
-        let mut book = Book::new(alloc, shape, 4096, 2)?;
+        let mut book = Book::new(alloc, shape, Capacity::usual(), 2)?;
         append(alloc, &mut book, shape, "a", 0, &[5])?;
         second(alloc, &mut book, shape, 0, None)?;
         correct(alloc, &mut book, shape, times)?;
@@ -304,13 +310,17 @@ fn pairs_go_after_64_versions(rt: HostRuntime) -> Result<(), Fail> {
 fn last_pair_goes_at_the_capacity(rt: HostRuntime) -> Result<(), Fail> {
     let alloc = rt.alloc();
     let shape = Shape::new(1, 1)?;
-    for (more, hits, misses) in [(0u8, 0, 1), (1, 1, 0)] {
-        let mut book = Book::new(alloc, shape, 1 + more as u32, 2)?;
+    for (nodes, hits, misses) in [(1, 0, 1), (2, 1, 0)] {
+        let mut book = Book::new(alloc, shape, capacity(nodes)?, 2)?;
         append(alloc, &mut book, shape, "a", 0, &[5])?;
         append(alloc, &mut book, shape, "b", SECOND, &[7])?;
         for (at, hits, misses) in [(0, 0, 1), (1, 0, 1), (0, hits, misses)] {
             let reply = second(alloc, &mut book, shape, at, None)?;
-            assert_eq!(rt; reply.0, found(2, hits, misses, misses), "at 1 + {more}");
+            assert_eq!(rt;
+                reply.0,
+                found(2, hits, misses, misses),
+                "with {nodes} nodes"
+            );
         }
     }
     Ok(())
@@ -349,7 +359,7 @@ fn allowing(
 fn refused_looks_move_no_pair(rt: HostRuntime) -> Result<(), Fail> {
     let alloc = rt.alloc();
     let shape = Shape::new(1, 8)?;
-    let mut book = Book::new(alloc, shape, 2, 2)?;
+    let mut book = Book::new(alloc, shape, capacity(2)?, 2)?;
     append(alloc, &mut book, shape, "a", SECOND, &[5])?;
     append(alloc, &mut book, shape, "b", 2 * SECOND, &[60097])?;
     append(alloc, &mut book, shape, "c", 3 * SECOND, &[7])?;
@@ -387,7 +397,7 @@ fn told(step: &Step) -> (u32, Option<EditReply>, Option<LookReply>, Option<u64>)
 fn history_has_each_reply(rt: HostRuntime) -> Result<(), Fail> {
     let alloc = rt.alloc();
     let shape = Shape::new(1, 1)?;
-    let mut book = Book::new(alloc, shape, 4096, 2)?;
+    let mut book = Book::new(alloc, shape, Capacity::usual(), 2)?;
     correct(alloc, &mut book, shape, 1)?;
     append(alloc, &mut book, shape, "a", 0, &[5])?;
     append(alloc, &mut book, shape, "a", 9, &[5])?;
@@ -418,7 +428,7 @@ fn nine_rows(alloc: Global, shape: Shape) -> Result<Book, Fail>
     ensures sessions { IfOk result (λ book. book.sessions ≡ 2) }
     ensures extent { IfOk result (λ book. book.extent ≡ shape) }
 {
-    let mut book = Book::new(alloc, shape, 4096, 2)?;
+    let mut book = Book::new(alloc, shape, Capacity::usual(), 2)?;
     for (text, at) in [
         ("b", 0u8),
         ("c", 1),

@@ -10,30 +10,29 @@ ghost use Rattle.book.specs.Books.{AreKept, held};
 
 use decompose::pieces;
 use dyadic::Node;
-use increments::Rows;
 use node_cache::NodeCache;
 use solve::Plan;
 use std::alloc::Global;
 use std::sync::Arc;
 use std::sync::ledger::Ledger;
-use versions::EditLog;
+use versions::{EditLog, RowsView};
 use words::{Memory, Steps};
 
-/// A node with at most so many rows isn't halved.
-const FEW: u64 = 8;
+/// The most rows of a leaf: a node with at most so many isn't halved.
+const LEAF_ROWS: u64 = 8;
 
 /// The leaf of these rows in the node.
-fn leaf(alloc: Global, rows: &Rows, node: Node) -> Result<Plan, Memory>
-    ensures { IfOk result (λ plan. plan ≡ LeafPlan node (rows_in (low_of node) (high_of node) rows.now.rows)) }
+fn leaf(alloc: Global, rows: &RowsView<'_>, node: Node) -> Result<Plan, Memory>
+    ensures { IfOk result (λ plan. plan ≡ LeafPlan node (rows_in (low_of node) (high_of node) rows.now)) }
 {
     Ok(Plan::Leaf(node, rows.copy_in(alloc, node.low(), node.high())?))
 }
 
-/// The plan for a node at a version. After the version `upto` none up to the looked one touches the node. Takes one step for each visited
+/// The plan for a node at a version. After the version `upto` none up to the looked one touches the node. Takes one unit for each visited
 /// node, and after want of memory at most so many.
 fn visit<L: Ledger>(
     alloc: Global,
-    rows: &Rows,
+    rows: &RowsView<'_>,
     log: &EditLog,
     cache: &NodeCache,
     version: u64,
@@ -42,7 +41,7 @@ fn visit<L: Ledger>(
     steps: &mut Steps<L>,
 ) -> Result<Plan, Memory>
     requires version { version ≤ length log.now.edits }
-    requires rows { rows.now ≡ record { extent = log.now.extent; rows = rows_at log.now.edits version } }
+    requires rows { rows.now ≡ rows_at log.now.edits version }
     requires kept { AreKept log.now cache.now.entries }
     requires upto { upto ≤ version }
     requires untouched { since_version (low_of node) (high_of node) log.now.edits version ≡ since_version (low_of node) (high_of node) log.now.edits upto }
@@ -60,7 +59,7 @@ fn visit<L: Ledger>(
     if count == 0 {
         return Ok(Plan::Unit(node));
     }
-    if count <= FEW {
+    if count <= LEAF_ROWS {
         return leaf(alloc, rows, node);
     }
     let (Some(left), Some(right)) = (node.left(), node.right()) else {
@@ -71,10 +70,10 @@ fn visit<L: Ledger>(
     Ok(Plan::Split(node, Box::new(alloc, first)?, Box::new(alloc, second)?))
 }
 
-/// The plans for the pieces of `from .. to` at a version. Takes one step for each visited node, and after want of memory at most so many.
+/// The plans for the pieces of `from .. to` at a version. Takes one unit for each visited node, and after want of memory at most so many.
 pub fn plans_of<L: Ledger>(
     alloc: Global,
-    rows: &Rows,
+    rows: &RowsView<'_>,
     log: &EditLog,
     cache: &NodeCache,
     version: u64,
@@ -83,7 +82,7 @@ pub fn plans_of<L: Ledger>(
     steps: &mut Steps<L>,
 ) -> Result<Vec<Plan>, Memory>
     requires version { version ≤ length log.now.edits }
-    requires rows { rows.now ≡ record { extent = log.now.extent; rows = rows_at log.now.edits version } }
+    requires rows { rows.now ≡ rows_at log.now.edits version }
     requires kept { AreKept log.now cache.now.entries }
     requires forward { from ≤ to }
     requires end { to ≤ 2 ^ 32 }

@@ -2,13 +2,10 @@
 #![tactic(auto)]
 
 use rough_io::{StdSink, StdSource};
-use rough_main::{Through, rough};
+use rough_main::{Status, Through, rough};
 use std::process::ExitCode;
 use std::rt::Env;
 use std::{env, io};
-
-/// The status where memory is wanting before the run begins.
-const NO_MEMORY: u8 = 6;
 
 /// The words of the command line, without the program's name.
 fn command_line(rt: &(impl Env + AllocGlobal)) -> io::Result<Vec<String>> {
@@ -22,7 +19,7 @@ fn command_line(rt: &(impl Env + AllocGlobal)) -> io::Result<Vec<String>> {
 
 fn main(rt: HostRuntime) -> ExitCode {
     let Ok(words) = command_line(&rt) else {
-        return ExitCode::from(NO_MEMORY);
+        return ExitCode::from(Status::NoMemory.code());
     };
     let mut source = StdSource::new(rt.stdin());
     let mut sink = StdSink::new(rt.stdout());

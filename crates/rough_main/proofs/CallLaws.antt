@@ -18,12 +18,14 @@ use Rattle.session.specs.Play.{illegal_place}
 use Rattle.rough_main.specs.declared.reply.Parsed.{Parsed}
 use Rattle.rough_main.specs.declared.reply.Parsed.TheVariants.{Script, Refused}
 use Rattle.rough_main.specs.declared.reply.Reply.{Reply}
+use Rattle.rough_main.specs.Statuses.{code_of}
 use Rattle.rough_main.specs.Due.{DueReply, answered, unless_illegal, script_reply, generated_reply, unread_reply, form_of, capacity_of, order_in, is_threaded, IsReply, IsAnswer}
 use Rattle.rough_main.specs.Calls.{Port, IsCall, read_failed, write_failed, no_memory}
 use Rattle.rough_main.specs.Made.{IsMade, IsParsed, IsSpelled}
 
 -- ---- statuses
 
+-- the statuses of answers are those below 4
 pub answer-is_small : (status : ℕ) → IsAnswer status → status < 4
 answer-is_small status (inl zero) = omega arith
 answer-is_small status (inr (inl two)) = omega arith
@@ -50,6 +52,7 @@ answered-is_spelled form capacity order (Err fault) (Refused reply) is zero = ab
 
 -- ---- wishes
 
+-- where sessions run on threads, the source is read
 pub threaded-is_read : (wish : Wish) → is_threaded wish ≡ true → unread_reply wish ≡ None
 threaded-is_read (wishes.Threads capacity form) threaded = refl
 threaded-is_read (wishes.Given order capacity form) threaded = absurd (cc)
@@ -99,18 +102,18 @@ module _ (wish : Wish) (order : List ℕ) where
   }
 
   -- a reply for which nothing is read
-  pub made-unread : (reply : Reply) (due : DueReply) (source : Port) → unread_reply wish ≡ Some due → IsReply reply.status reply.text.items due → IsMade wish order (Ok reply) source source
+  pub made-unread : (reply : Reply) (due : DueReply) (source : Port) → unread_reply wish ≡ Some due → IsReply (code_of reply.status) reply.text.items due → IsMade wish order (Ok reply) source source
   made-unread reply due source unread is =
-      let status : IsUnread wish reply.status = subst (IsUnread wish) (sym is.0) (unread-status wish due unread) in
+      let status : IsUnread wish (code_of reply.status) = subst (IsUnread wish) (sym is.0) (unread-status wish due unread) in
       record {
-        reply = λ bytes told. subst (λ (u : Option DueReply). IsReply reply.status reply.text.items (unwrap_or u (script_reply (form_of wish) (capacity_of wish) (order_in wish order) (parse bytes)))) (sym unread) is;
+        reply = λ bytes told. subst (λ (u : Option DueReply). IsReply (code_of reply.status) reply.text.items (unwrap_or u (script_reply (form_of wish) (capacity_of wish) (order_in wish order) (parse bytes)))) (sym unread) is;
         logarithms = λ read bytes told zero. absurd (cc);
         versions = λ read bytes told zero. absurd (cc);
         status = elim status [ inl zero ↦ inl zero | inr refused ↦ inr (inl refused.0) ];
         refused = λ two. elim status [ inl zero ↦ absurd (omega arith) | inr refused ↦ refused.1 ];
         whole = λ read zero. absurd (cc);
         size = λ bytes told long three. absurd (elim status [ inl zero ↦ omega arith | inr refused ↦ omega (arith, refused.0) ]);
-        unread = λ other same. (λ failed. absurd (cc), Keeps-refl source.told, refl, subst (IsReply reply.status reply.text.items) (let both : due ≡ other = cc in both) is);
+        unread = λ other same. (λ failed. absurd (cc), Keeps-refl source.told, refl, subst (IsReply (code_of reply.status) reply.text.items) (let both : due ≡ other = cc in both) is);
         takes = takes-nothing (most_bytes + 1) source.told;
         failed = λ same. absurd (cc);
         memory = λ same. absurd (cc);
@@ -118,6 +121,7 @@ module _ (wish : Wish) (order : List ℕ) where
       }
 
   -- ---- a wish for which the source is read
+  -- without a reply, for want of memory or after a failed read, what is owed of it holds
   pub made-failed : (fault : ReceiveFault) (source taken : Port) → unread_reply wish ≡ None → TakesAtMost (most_bytes + 1) source.told taken.told
       → (fault ≡ Failed → Rose source.faults taken.faults) → (fault ≡ Memory → taken.faults ≡ source.faults) → IsMade wish order (Err fault) source taken
   made-failed fault source taken read takes rose kept = record {
@@ -137,7 +141,7 @@ module _ (wish : Wish) (order : List ℕ) where
 
   -- the reply to what the source spells
   pub made-replied : (reply : Reply) (source taken : Port) (spelled : Result ScriptValue ScriptFault) (parsed : Parsed) → unread_reply wish ≡ None → IsParsed spelled parsed
-      → ((bytes : List ℕ) → source.told ≡ Some bytes → parse bytes ≡ spelled) → IsReply reply.status reply.text.items (script_reply (form_of wish) (capacity_of wish) (order_in wish order) spelled)
+      → ((bytes : List ℕ) → source.told ≡ Some bytes → parse bytes ≡ spelled) → IsReply (code_of reply.status) reply.text.items (script_reply (form_of wish) (capacity_of wish) (order_in wish order) spelled)
       → ((bytes : List ℕ) → source.told ≡ Some bytes → LogarithmsExpand (parse bytes)) → ((bytes : List ℕ) → source.told ≡ Some bytes → VersionsNeverFall (parse bytes))
       → (IsSpelled parsed → IsAtEnd taken.told)
       → ((bytes : List ℕ) → source.told ≡ Some bytes → most_bytes < length bytes → taken.told ≡ Some (drop (most_bytes + 1) bytes))
@@ -147,8 +151,8 @@ module _ (wish : Wish) (order : List ℕ) where
       let status = due.0 in
       record {
         reply = λ bytes told.
-            let decided = subst (λ (s : Result ScriptValue ScriptFault). IsReply reply.status reply.text.items (script_reply (form_of wish) (capacity_of wish) (order_in wish order) s)) (sym (same bytes told)) due in
-            subst (λ (u : Option DueReply). IsReply reply.status reply.text.items (unwrap_or u (script_reply (form_of wish) (capacity_of wish) (order_in wish order) (parse bytes)))) (sym read) decided;
+            let decided = subst (λ (s : Result ScriptValue ScriptFault). IsReply (code_of reply.status) reply.text.items (script_reply (form_of wish) (capacity_of wish) (order_in wish order) s)) (sym (same bytes told)) due in
+            subst (λ (u : Option DueReply). IsReply (code_of reply.status) reply.text.items (unwrap_or u (script_reply (form_of wish) (capacity_of wish) (order_in wish order) (parse bytes)))) (sym read) decided;
         logarithms = λ read bytes told zero. logarithms bytes told;
         versions = λ read bytes told zero. versions bytes told;
         status = elim answer [ inl zero ↦ inl (status ∙ zero) | inr three ↦ inr (inr (status ∙ three)) ];
@@ -164,6 +168,7 @@ module _ (wish : Wish) (order : List ℕ) where
 
   -- ---- calls
 
+  -- the call answers a failed read with status 4, and writes nothing
   pub call-read_failed : (source taken sink : Port) → IsMade wish order (Err Failed) source taken → IsCall wish order read_failed source taken sink sink
   call-read_failed source taken sink made = record {
     statuses = inr (inl refl);
@@ -182,6 +187,7 @@ module _ (wish : Wish) (order : List ℕ) where
     memory_wanting = λ six. absurd (omega arith);
   }
 
+  -- it answers want of memory with status 6, and writes nothing
   pub call-without_memory : (source taken sink : Port) → IsMade wish order (Err Memory) source taken → IsCall wish order no_memory source taken sink sink
   call-without_memory source taken sink made = record {
     statuses = inr (inr (inr refl));
@@ -200,8 +206,9 @@ module _ (wish : Wish) (order : List ℕ) where
     memory_wanting = λ same. (Keeps-refl sink.told, made.memory refl, refl);
   }
 
+  -- once the reply is written, its status is that of the call
   pub call-written : (reply : Reply) (source taken sink given : Port) → IsMade wish order (Ok reply) source taken → Appends sink.told given.told reply.text.items
-      → given.faults ≡ sink.faults → IsCall wish order reply.status source taken sink given
+      → given.faults ≡ sink.faults → IsCall wish order (code_of reply.status) source taken sink given
   call-written reply source taken sink given made appends kept = record {
     statuses = inl made.status;
     answered = λ answer bytes told. let due = made.reply bytes told in (due.0, subst (Appends sink.told given.told) due.1 appends);
@@ -214,11 +221,12 @@ module _ (wish : Wish) (order : List ℕ) where
     takes = made.takes;
     refused = made.refused;
     unread = λ due unread. let made_unread = made.unread due unread in let is = made_unread.3 in (made_unread.1, made_unread.2, inl (is.0, subst (Appends sink.told given.told) is.1 appends));
-    source_failed = λ four. absurd (fault-is_no_answer reply.status (omega arith) made.status);
-    sink_failed = λ five. absurd (fault-is_no_answer reply.status (omega arith) made.status);
-    memory_wanting = λ six. absurd (fault-is_no_answer reply.status (omega arith) made.status);
+    source_failed = λ four. absurd (fault-is_no_answer (code_of reply.status) (omega arith) made.status);
+    sink_failed = λ five. absurd (fault-is_no_answer (code_of reply.status) (omega arith) made.status);
+    memory_wanting = λ six. absurd (fault-is_no_answer (code_of reply.status) (omega arith) made.status);
   }
 
+  -- where writing failed, the call has status 5, and a part of the text from its start was added
   pub call-write_failed : (reply : Reply) (source taken sink given : Port) → IsMade wish order (Ok reply) source taken → AddsPrefix reply.text.items sink.told given.told
       → Rose sink.faults given.faults → IsCall wish order write_failed source taken sink given
   call-write_failed reply source taken sink given made prefix rose = record {

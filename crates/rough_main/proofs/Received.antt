@@ -15,6 +15,7 @@ consumed (Some xs) (Some ys) received all told taken = let same : xs ≡ all = c
 parse-long : (bytes : List ℕ) → most_bytes < length bytes → parse bytes ≡ Err Size
 parse-long bytes long = let test = lt-ltb most_bytes (length bytes) long in rw test refl
 
+-- bytes that were received up to one more than a script may have spell what all bytes do: the rest is empty, or both are too many
 pub received-decides : (all received rest : List ℕ) → all ≡ received ++ rest → (length received ≤ most_bytes → rest ≡ []) → parse all ≡ parse received
 received-decides all received rest whole ended =
     elim (cases_lt most_bytes (length received)) [
@@ -22,6 +23,7 @@ received-decides all received rest whole ended =
       | inr short ↦ ap parse (whole ∙ ap (λ (xs : List ℕ). received ++ xs) (ended short) ∙ append-nil received)
     ]
 
+-- of more bytes than a script may have exactly that many and one are taken
 pub rest-of-long : (all received rest : List ℕ) → all ≡ received ++ rest → length received ≤ most_bytes + 1 → (length received ≤ most_bytes → rest ≡ []) → most_bytes < length all
     → rest ≡ drop (most_bytes + 1) all
 rest-of-long all received rest whole bound ended long =

@@ -8,6 +8,8 @@ use Rattle.command_line.specs.declared.wish.Wish.TheVariants.{Refused}
 use Rattle.script_reader.specs.Script.{parse, most_bytes}
 use Rattle.session.specs.Logarithms.{LogarithmsExpand}
 use Rattle.session.specs.Versions.{VersionsNeverFall}
+use Rattle.rough_main.specs.declared.status.Status.TheVariants as statuses
+use Rattle.rough_main.specs.Statuses.{code_of}
 use Rattle.rough_main.specs.Due.{DueReply, due_reply, unread_reply, IsAnswer}
 
 -- the bytes that a source has left or that a sink was given, where they are told, and the count of faults
@@ -17,13 +19,15 @@ pub record Port : Type 0 where
 
 -- the statuses where the source failed, where the sink failed, and where memory was wanting
 abbrev pub read_failed : ℕ
-read_failed = 4
+read_failed = code_of statuses.ReadFailed
 
+-- writing failed
 abbrev pub write_failed : ℕ
-write_failed = 5
+write_failed = code_of statuses.WriteFailed
 
+-- memory was wanting
 abbrev pub no_memory : ℕ
-no_memory = 6
+no_memory = code_of statuses.NoMemory
 
 -- A call with this wish, whose threads, where it has any, take their steps in this order. The source was `source` and is `taken`, the sink
 -- was `sink` and is `given`.

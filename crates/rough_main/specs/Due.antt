@@ -16,10 +16,12 @@ use Rattle.answers.specs.Text.{outcome_text}
 use Rattle.answers.specs.Json.{json_text}
 use Rattle.answers.specs.Generator.{generated, summary_text}
 
+-- what is due: the status, and the bytes that are written
 pub record DueReply : Type 0 where
   pub status : ℕ
   pub text : List ℕ
 
+-- the word of a reason
 abbrev pub reason_text : Reason → List ℕ
 reason_text Byte = codes "byte"
 reason_text Keyword = codes "keyword"
@@ -39,6 +41,7 @@ reason_text Load = codes "load"
 reason_text Answers = codes "answers"
 reason_text End = codes "end"
 
+-- the fault of a line, whose number counts from 1
 abbrev pub line_text : ℕ → Reason → List ℕ
 line_text n reason = codes "fault line " ++ decimal n ++ codes " " ++ reason_text reason ++ codes "\n"
 
@@ -57,6 +60,7 @@ written forms.Json extent outcome = json_text extent outcome
 abbrev pub answered : Form → ℕ → ScriptValue → List ℕ → DueReply
 answered form capacity script order = record { status = 0; text = written form script.extent (due_outcome capacity script order) }
 
+-- the fault of an order, whose places count from 1
 abbrev pub place_text : ℕ → List ℕ
 place_text place = codes "fault order place " ++ decimal place ++ codes "\n"
 
@@ -65,6 +69,7 @@ abbrev pub unless_illegal : Option ℕ → DueReply → DueReply
 unless_illegal None reply = reply
 unless_illegal (Some place) reply = record { status = 3; text = place_text place }
 
+-- the answers in this order, or the place at which it is illegal
 abbrev pub ordered : Form → ℕ → ScriptValue → List ℕ → DueReply
 ordered form capacity script order = unless_illegal (illegal_place capacity script order) (answered form capacity script order)
 

@@ -1,3 +1,4 @@
+pub mod Statuses
 pub mod Due
 pub mod Calls
 pub mod Made

@@ -14,13 +14,14 @@ use Rattle.session.specs.Versions.{VersionsNeverFall}
 use Rattle.rough_main.specs.declared.reply.Parsed.{Parsed}
 use Rattle.rough_main.specs.declared.reply.Parsed.TheVariants.{Script, Refused}
 use Rattle.rough_main.specs.declared.reply.Reply.{Reply}
+use Rattle.rough_main.specs.Statuses.{code_of}
 use Rattle.rough_main.specs.Due.{DueReply, due_reply, fault_text, unread_reply, IsReply, IsAnswer}
 use Rattle.rough_main.specs.Calls.{Port}
 
 -- the script that was spelled, or the reply that names its fault
 abbrev pub IsParsed : Result ScriptValue ScriptFault → Parsed → Type 0
 IsParsed spelled (Script script) = spelled ≡ Ok script
-IsParsed spelled (Refused reply) = (fault : ScriptFault) × (spelled ≡ Err fault) × IsReply reply.status reply.text.items (record { status = 3; text = fault_text fault })
+IsParsed spelled (Refused reply) = (fault : ScriptFault) × (spelled ≡ Err fault) × IsReply (code_of reply.status) reply.text.items (record { status = 3; text = fault_text fault })
 
 -- a script was spelled
 abbrev pub IsSpelled : Parsed → Type 0
@@ -29,15 +30,15 @@ IsSpelled (Refused reply) = ⊥
 
 -- the reply to this wish and the source, whose threads take their steps in this order
 pub record IsMade (wish : Wish) (order : List ℕ) (made : Result Reply ReceiveFault) (source taken : Port) : Type 0 where
-  pub reply : (bytes : List ℕ) → source.told ≡ Some bytes → IfOk made (λ r. IsReply r.status r.text.items (due_reply wish bytes order))
-  pub logarithms : unread_reply wish ≡ None → (bytes : List ℕ) → source.told ≡ Some bytes → IfOk made (λ r. r.status ≡ 0 → LogarithmsExpand (parse bytes))
-  pub versions : unread_reply wish ≡ None → (bytes : List ℕ) → source.told ≡ Some bytes → IfOk made (λ r. r.status ≡ 0 → VersionsNeverFall (parse bytes))
-  pub status : IfOk made (λ r. IsAnswer r.status)
-  pub refused : IfOk made (λ r. r.status ≡ 2 → wish ≡ wishes.Refused)
-  pub whole : unread_reply wish ≡ None → IfOk made (λ r. r.status ≡ 0 → IsAtEnd taken.told)
-  pub size : (bytes : List ℕ) → source.told ≡ Some bytes → most_bytes < length bytes → IfOk made (λ r. r.status ≡ 3 → taken.told ≡ Some (drop (most_bytes + 1) bytes))
+  pub reply : (bytes : List ℕ) → source.told ≡ Some bytes → IfOk made (λ r. IsReply (code_of r.status) r.text.items (due_reply wish bytes order))
+  pub logarithms : unread_reply wish ≡ None → (bytes : List ℕ) → source.told ≡ Some bytes → IfOk made (λ r. code_of r.status ≡ 0 → LogarithmsExpand (parse bytes))
+  pub versions : unread_reply wish ≡ None → (bytes : List ℕ) → source.told ≡ Some bytes → IfOk made (λ r. code_of r.status ≡ 0 → VersionsNeverFall (parse bytes))
+  pub status : IfOk made (λ r. IsAnswer (code_of r.status))
+  pub refused : IfOk made (λ r. code_of r.status ≡ 2 → wish ≡ wishes.Refused)
+  pub whole : unread_reply wish ≡ None → IfOk made (λ r. code_of r.status ≡ 0 → IsAtEnd taken.told)
+  pub size : (bytes : List ℕ) → source.told ≡ Some bytes → most_bytes < length bytes → IfOk made (λ r. code_of r.status ≡ 3 → taken.told ≡ Some (drop (most_bytes + 1) bytes))
   pub unread : (due : DueReply) → unread_reply wish ≡ Some due → (made ≢ Err Failed) × Keeps source.told taken.told × (taken.faults ≡ source.faults)
-      × IfOk made (λ r. IsReply r.status r.text.items due)
+      × IfOk made (λ r. IsReply (code_of r.status) r.text.items due)
   pub takes : TakesAtMost (most_bytes + 1) source.told taken.told
   pub failed : IsErrOf made Failed → Rose source.faults taken.faults
   pub memory : IsErrOf made Memory → taken.faults ≡ source.faults

@@ -1,8 +1,13 @@
 //! The top call: from the words of the command line and the bytes of a source to a status and the bytes of a sink.
 #![tactic(auto)]
 
+#[cfg(test)]
+mod cases;
 mod fault_text;
+#[cfg(test)]
+mod limit_tests;
 mod reply;
+pub mod status;
 #[cfg(test)]
 mod tests;
 #[cfg(test)]
@@ -11,4 +16,5 @@ pub mod top;
 
 pub use command_line::read_words;
 pub use session::{Gate, Through};
+pub use status::Status;
 pub use top::{rough, rough_plain};

@@ -6,10 +6,12 @@ ghost use Rattle.session.specs.Play.{DueOutcome};
 ghost use Rattle.session.specs.Answers.{IsOutcome, AllHaveMembers};
 ghost use Rattle.session.specs.Logarithms.{LogarithmsExpand};
 ghost use Rattle.session.specs.Versions.{VersionsNeverFall};
+ghost use Rattle.rough_main.specs.Statuses.{code_of};
 ghost use Rattle.rough_main.specs.Due.{written, ordered, script_reply, generated_reply, IsReply, IsLegalFor};
 ghost use Rattle.rough_main.specs.Made.{IsParsed};
 
 use crate::fault_text::{line_text, place_text};
+use crate::status::Status;
 use answers::{gen_script, json_of, summary_of, text_of};
 use command_line::Form;
 use hall_set::HallSet;
@@ -20,12 +22,12 @@ use std::alloc::Global;
 use std::sync::Wait;
 use std::sync::ledger::{Blank, Ledger};
 use std::thread::Threads;
-use words::{Free, Memory, Steps};
+use words::{Capacity, Free, Memory, Steps};
 
 /// A status, and the text that is to be written with it.
 #[derive(Drop)]
 pub struct Reply {
-    pub status: u8,
+    pub status: Status,
     pub text: Vec<u8>,
 }
 
@@ -52,7 +54,10 @@ pub fn script_in(alloc: Global, bytes: &[u8]) -> Result<Parsed, Memory>
         Err(ScriptFault::Line(line, reason)) => line_text(alloc, line, reason)?,
         Err(ScriptFault::Memory) => return Err(Memory),
     };
-    Ok(Parsed::Refused(Reply { status: 3, text }))
+    Ok(Parsed::Refused(Reply {
+        status: Status::ScriptRefused,
+        text,
+    }))
 }
 
 /// The reply with an outcome in this form.
@@ -63,14 +68,17 @@ fn reply_with(
     outcome: &Outcome,
 ) -> Result<Reply, Memory>
     requires { AllHaveMembers script.now.extent outcome.now }
-    ensures { (due : DueOutcome) → IsOutcome script.now.extent outcome.now due → IfOk result (λ reply. IsReply reply.status reply.text.items (record { status = 0; text = written form script.now.extent due })) }
+    ensures { (due : DueOutcome) → IsOutcome script.now.extent outcome.now due → IfOk result (λ reply. IsReply (code_of reply.status) reply.text.items (record { status = 0; text = written form script.now.extent due })) }
 {
     let hall = HallSet::build(alloc, script.shape())?;
     let text = match form {
         Form::Text => text_of(alloc, &hall, outcome)?,
         Form::Json => json_of(alloc, &hall, outcome)?,
     };
-    Ok(Reply { status: 0, text })
+    Ok(Reply {
+        status: Status::Answered,
+        text,
+    })
 }
 
 /// The reply to a script whose sessions take their steps in this order, over a count of steps that begins here.
@@ -78,22 +86,20 @@ fn reply_counted<L: Ledger>(
     alloc: Global,
     script: &Script,
     form: Form,
-    capacity: u32,
+    capacity: Capacity,
     order: &[u32],
     blank: Blank,
 ) -> Result<Reply, Memory>
     requires name { blank.name ≡ L.name }
     requires parts { blank.parts ≡ L.parts }
     requires counted { 0 < L.parts }
-    requires some { 1 ≤ capacity }
-    requires within { capacity ≤ 16384 }
-    ensures { IfOk result (λ reply. IsReply reply.status reply.text.items (ordered form capacity script.now order.now)) }
+    ensures { IfOk result (λ reply. IsReply (code_of reply.status) reply.text.items (ordered form capacity script.now order.now)) }
 {
     let mut steps: Steps<L> = Steps::new(blank);
     match replay(alloc, script, capacity, order, &mut steps) {
         Ok(outcome) => reply_with(alloc, script, form, &outcome),
         Err(ReplayFault::Order(place)) => Ok(Reply {
-            status: 3,
+            status: Status::ScriptRefused,
             text: place_text(alloc, place)?,
         }),
         Err(ReplayFault::Memory) => Err(Memory),
@@ -105,12 +111,10 @@ pub fn reply_in_order(
     alloc: Global,
     parsed: Parsed,
     form: Form,
-    capacity: u32,
+    capacity: Capacity,
     order: &[u32],
 ) -> Result<Reply, Memory>
-    requires some { 1 ≤ capacity }
-    requires within { capacity ≤ 16384 }
-    ensures { (spelled : Result ScriptValue TheFault) → IsParsed spelled parsed → IfOk result (λ reply. IsReply reply.status reply.text.items (script_reply form capacity order.now spelled)) }
+    ensures { (spelled : Result ScriptValue TheFault) → IsParsed spelled parsed → IfOk result (λ reply. IsReply (code_of reply.status) reply.text.items (script_reply form capacity order.now spelled)) }
 {
     match parsed {
         Parsed::Script(script) => reply_counted::<Free>(
@@ -131,13 +135,11 @@ pub fn reply_on_threads<R: Threads + Wait + Sync, G: Gate>(
     alloc: Global,
     parsed: Parsed,
     form: Form,
-    capacity: u32,
+    capacity: Capacity,
     gate: &G,
 ) -> Result<Reply, Memory>
-    requires some { 1 ≤ capacity }
-    requires within { capacity ≤ 16384 }
     ensures { (spelled : Result ScriptValue TheFault) → IsParsed spelled parsed →
-        IfOk result (λ reply. (order : List ℕ) × IsLegalFor capacity order spelled × IsReply reply.status reply.text.items (script_reply form capacity order spelled)) }
+        IfOk result (λ reply. (order : List ℕ) × IsLegalFor capacity order spelled × IsReply (code_of reply.status) reply.text.items (script_reply form capacity order spelled)) }
 {
     match parsed {
         Parsed::Script(script) => {
@@ -152,7 +154,7 @@ pub fn reply_on_threads<R: Threads + Wait + Sync, G: Gate>(
 fn generated_counted<L: Ledger>(
     alloc: Global,
     n: u32,
-    capacity: u32,
+    capacity: Capacity,
     blank: Blank,
 ) -> Result<Reply, Memory>
     requires name { blank.name ≡ L.name }
@@ -160,36 +162,32 @@ fn generated_counted<L: Ledger>(
     requires counted { 0 < L.parts }
     requires one { 1 ≤ n }
     requires few { n ≤ 10000 }
-    requires some { 1 ≤ capacity }
-    requires within { capacity ≤ 16384 }
-    ensures { IfOk result (λ reply. IsReply reply.status reply.text.items (generated_reply n capacity)) }
+    ensures { IfOk result (λ reply. IsReply (code_of reply.status) reply.text.items (generated_reply n capacity)) }
 {
     let mut steps: Steps<L> = Steps::new(blank);
     let script = gen_script(alloc, n)?;
     let outcome = replay_round(alloc, &script, capacity, &mut steps)?;
     Ok(Reply {
-        status: 0,
+        status: Status::Answered,
         text: summary_of(alloc, n, script.shape(), &outcome)?,
     })
 }
 
 /// The summary of the generated script of n commands, whose sessions take one step each in turn.
-pub fn reply_generated(alloc: Global, n: u32, capacity: u32) -> Result<Reply, Memory>
+pub fn reply_generated(alloc: Global, n: u32, capacity: Capacity) -> Result<Reply, Memory>
     requires one { 1 ≤ n }
     requires few { n ≤ 10000 }
-    requires some { 1 ≤ capacity }
-    requires within { capacity ≤ 16384 }
-    ensures { IfOk result (λ reply. IsReply reply.status reply.text.items (generated_reply n capacity)) }
+    ensures { IfOk result (λ reply. IsReply (code_of reply.status) reply.text.items (generated_reply n capacity)) }
 {
     generated_counted::<Free>(alloc, n, capacity, Blank::new(1))
 }
 
 /// The reply to words that are refused.
 pub fn reply_to_refused(alloc: Global) -> Result<Reply, Memory>
-    ensures { IfOk result (λ reply. (reply.status ≡ 2) × (reply.text.items ≡ codes "fault words\n")) }
+    ensures { IfOk result (λ reply. (code_of reply.status ≡ 2) × (reply.text.items ≡ codes "fault words\n")) }
 {
     Ok(Reply {
-        status: 2,
+        status: Status::WordsRefused,
         text: Vec::from_slice(alloc, b"fault words\n")?,
     })
 }

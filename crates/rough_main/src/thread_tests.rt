@@ -9,7 +9,7 @@ use std::thread;
 use std::thread::Threads;
 
 /// The status of a run with these words, and what it writes.
-fn answers_to<R: Threads + Wait + Sync, G: Gate>(
+pub(crate) fn answers_to<R: Threads + Wait + Sync, G: Gate>(
     rt: &R,
     alloc: Global,
     words: &[&str],
@@ -33,13 +33,17 @@ fn entry(i: u64, step: u64) -> i64 {
     (i.wrapping_mul(step) % 2001) as i64 - 1000
 }
 
-/// The commands of one of three sessions, which share 2,000 rows and 300 queries.
+/// The commands of one of three sessions, which share 2,000 rows and 300 queries; each fifth row has areas.
 fn write_session(alloc: Global, text: &mut String, session: u64) -> Result<(), Fail> {
     text.push_str(format!(in alloc; "session {session}\n")?.as_str())?;
     for i in 0..2000u64 {
         if i % 3 + 1 == session {
             let (x, y, z) = (entry(i, 37), entry(i, 91), entry(i, 53));
-            text.push_str(format!(in alloc; "append p{i} {i} {x} {y} {z}\n")?.as_str())?;
+            text.push_str(format!(in alloc; "append p{i} {i} {x} {y} {z}")?.as_str())?;
+            if i % 5 == 0 {
+                text.push_str(format!(in alloc; " {z} {x} {y}")?.as_str())?;
+            }
+            text.push_str("\n")?;
         }
     }
     for j in 0..300u64 {

@@ -16,6 +16,7 @@ ghost use Rattle.rough_main.specs.Made.{IsMade, IsParsed, IsSpelled};
 use crate::reply::{
     Parsed, Reply, reply_generated, reply_in_order, reply_on_threads, reply_to_refused, script_in,
 };
+use crate::status::Status;
 use command_line::{Wish, read_words};
 use rough_io::{ReceiveFault, Sink, Source, receive, send};
 use session::Gate;
@@ -25,15 +26,6 @@ use std::thread::Threads;
 
 /// The most bytes of a script.
 const MOST_BYTES: usize = 4_194_304;
-
-/// The status where the source failed.
-const READ_FAILED: u8 = 4;
-
-/// The status where the sink failed.
-const WRITE_FAILED: u8 = 5;
-
-/// The status where memory was wanting.
-const NO_MEMORY: u8 = 6;
 
 /// What the bytes of a source spell.
 fn read_source<S: Source>(alloc: Global, source: &mut S) -> Result<Parsed, ReceiveFault>
@@ -119,12 +111,12 @@ fn write_reply<O: Sink>(made: Result<Reply, ReceiveFault>, sink: &mut O) -> u8
 {
     let reply = match made {
         Ok(reply) => reply,
-        Err(ReceiveFault::Failed) => return READ_FAILED,
-        Err(ReceiveFault::Memory) => return NO_MEMORY,
+        Err(ReceiveFault::Failed) => return Status::ReadFailed.code(),
+        Err(ReceiveFault::Memory) => return Status::NoMemory.code(),
     };
     match send(sink, &reply.text) {
-        Ok(()) => reply.status,
-        Err(_failed) => WRITE_FAILED,
+        Ok(()) => reply.status.code(),
+        Err(_failed) => Status::WriteFailed.code(),
     }
 }
 
@@ -144,7 +136,7 @@ pub fn rough_plain<S: Source, O: Sink>(
         (record { told = O.written sink.old; faults = O.faults sink.old }) (record { told = O.written sink.new; faults = O.faults sink.new })) }
 {
     let Ok(wish) = read_words(alloc, words) else {
-        return Some(NO_MEMORY);
+        return Some(Status::NoMemory.code());
     };
     if is_for_threads(&wish) {
         return None;
@@ -187,7 +179,7 @@ pub fn rough<R: Threads + Wait + Sync, S: Source, O: Sink, G: Gate>(
         return status;
     }
     let Ok(wish) = read_words(alloc, words) else {
-        return NO_MEMORY;
+        return Status::NoMemory.code();
     };
     write_reply(reply_threaded(rt, alloc, &wish, source, gate), sink)
 }

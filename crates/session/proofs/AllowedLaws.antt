@@ -42,12 +42,15 @@ flat-fits (suc k) v fits =
       ap (λ (m : ℕ). v ^ m) (add-one k),
     )
 
+-- what fits the factors 1 has a signature
 pub flat-signatures : (extent : Extent) → AllowsSignatures extent (allowed.Fits (replicate extent.depth 1))
 flat-signatures extent v test = flat-fits extent.depth v (tested-fits (replicate extent.depth 1) v test)
 
+-- so has what fits the factors of a table
 pub table-signatures : (extent : Extent) → IsShape extent → AllowsSignatures extent (allowed.Fits (lie_bounds extent))
 table-signatures extent shape v test = fits-signature extent v shape.some_depth shape.within_depth (tested-fits (lie_bounds extent) v test)
 
 -- ---- logarithms
+-- rows that the query for a logarithm doesn't refuse fit the factors of the table
 pub allowed-fits : (extent : Extent) (v : ℕ) → AreLight extent → IsAllowed extent Log v → Fits (lie_bounds extent) v
 allowed-fits extent v light is = unrefused-fits (lie_bounds extent) v (sym (ap₂ (λ p l. refused_by (allowed_by p l (lie_bounds extent)) v) light.pairs light.levels) ∙ is)

@@ -77,12 +77,18 @@ module _ (session : ℕ) (q : Query) (old new : BookValue) (book : new ≡ with_
         (subst (λ (look : Option PendingLook). IsSolvedFor (log_of old) look kept) pending (solved-for (log_of old) v nodes solved kept settlement beside_here))
 
 -- ---- a look that gives a work
+-- the look of an answered query and its work, at the book that the session found
 pub record IsAsked (extent : Extent) (session : ℕ) (ask : Ask) (old : BookValue) (work : WorkValue) : Type 0 where
+  -- the query is of the book's extent
   pub extent_is : extent ≡ old.extent
+  -- the session may do a step
   pub ready : IsReady old session
+  -- the look isn't refused
   pub unrefused_is : look_refusal (state_of old).edits (query_for extent ask) ≡ None
+  -- the work is that of the query
   pub work_is : IsWorkOf extent (state_of old) (query_for extent ask) work
 
+-- a look that gave a work is one
 pub asked-work : (extent : Extent) (session : ℕ) (ask : Ask) (old : BookValue) (looked : Looked) (work : WorkValue) → IsLookedFor extent session ask old looked → looked.look ≡ Work work
     → IsAsked extent session ask old work
 asked-work extent session ask old looked work is look_is =
@@ -101,6 +107,7 @@ module _ (extent : Extent) (session : ℕ) (ask : Ask) (old : BookValue) (work :
   abbrev new : BookValue
   new = with_request (Looking session asked) old
 
+  -- where the look is pending, its solution is the one that is kept
   pub asked-solved : (solved : Solved) (kept : Option Solved) → AreSolved extent (all_missed work.plans) solved.nodes.items
       → (is_some (pending_of session (state_of new).pending) ≡ true → kept ≡ Some solved) → IsSolvedFor (log_of new) (pending_of session (state_of new).pending) kept
   asked-solved solved kept are beside =
@@ -119,6 +126,7 @@ abbrev IsRefusal : Look → Type 0
 IsRefusal (Work work) = ⊥
 IsRefusal _ = Unit {0}
 
+-- a look without a work is a refusal
 pub refused-look : (look : Look) → ((work : WorkValue) → look ≡ Work work → ⊥) → IsRefusal look
 refused-look (Work work) not = not work refl
 refused-look (NoVersion current) not = tt
@@ -143,17 +151,20 @@ module _ (extent : Extent) (session : ℕ) (ask : Ask) (old : BookValue) (look :
   refusal : (reply : LookReply) × (look_refusal (state_of old).edits asked_for ≡ Some reply)
   refusal = refusal-is old.extent (state_of old) asked_for look.look refused is.looked_is.gives
 
+  -- the answer of a refused look is the refusal that is due
   pub refused-shows : Shows extent (answers.Refused look.reply) (looked extent (state_of old) asked_for)
   refused-shows =
       let due : Due = valued extent ask.kind (found (state_of old) asked_for) (looked_rows (state_of old).edits asked_for) in
       subst (Shows extent (answers.Refused look.reply)) (sym (ap (λ (r : Option LookReply). unless r due) refusal.1))
       (is.looked_is.reply_is ∙ ap (λ (r : Option LookReply). unwrap_or r (found (state_of old) asked_for)) refusal.1)
 
+  -- after it no look is pending
   pub refused-none : pending_of session (state_of refused_book).pending ≡ None
   refused-none =
       ap (λ (s : State). pending_of session s.pending)
       (state-push old (Looking session asked_for) ∙ ap (λ (r : Option LookReply). unless_refused r (state_of old) (after_found session asked_for (state_of old))) refusal.1)
       ∙ is.free
 
+  -- it exponentiates no rows
   pub refused-exps : exps_for (state_of old) asked_for ≡ 0
   refused-exps = ap (λ (r : Option LookReply). exps_unless r (sum_by exps_of (look_walk (state_of old) asked_for))) refusal.1

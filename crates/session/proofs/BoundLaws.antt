@@ -24,10 +24,12 @@ within-bound p b g h =
     let whole : p * b ≤ p * (b * max 1 g) = mul-le-mul_left p (omega (arith, more)) in
     omega (arith, whole, h)
 
+-- what fits the factors of a table fits the bound of a logarithm
 pub fits-logarithm : (extent : Extent) (v : ℕ) → Fits (lie_bounds extent) v → LogFits v extent.depth
 fits-logarithm extent v fits =
     fits-each log_bound extent.depth v (λ k h. within-bound (v ^ suc k) (log_bound (suc k)) _ (each-fits (lie_bound extent) extent.depth v fits k h))
 
+-- and has a signature
 pub fits-signature : (extent : Extent) (v : ℕ) → 1 ≤ extent.depth → extent.depth ≤ 8 → Fits (lie_bounds extent) v → v ^ extent.depth ≤ limit
 fits-signature extent v some small fits = at extent.depth some small (each-fits log_bound extent.depth v (fits-logarithm extent v fits))
   where

@@ -19,21 +19,32 @@ use Rattle.session.proofs.TogetherLaws.{all-told, all-legal}
 
 -- the book that comes out goes on from what the first pass knows, into which those of all sessions were joined
 pub record IsEnd (script : ScriptValue) (first : BookValue) (head : PassView Step) (book : BookValue) (transcripts : List (List Answer)) : Type 0 where
+  -- the script has its form
   pub is_script : IsScript script
+  -- the book began with as many sessions as the script has
   pub sessions : first.sessions ≡ length script.sessions
+  -- the first pass has the frame of that book
   pub frame : head.frame ≡ frame_of first
+  -- what comes out is a book
   pub is_book : IsBook book
+  -- which isn't spent
   pub unspent : book.spent ≡ false
+  -- it has the frame, too
   pub framed : frame_of book ≡ head.frame
+  -- all that the first pass has seen is in it
   pub seen : IsPrefix head.seen book.history
+  -- the steps of each joined pass are those with its label
   pub own : All (λ j. of_label session_of j.0 book.history ≡ j.1) head.joined
+  -- each session of the script has its answers
   pub count : length transcripts ≡ length script.sessions
+  -- and each was served on a pass that was joined
   pub joined : AreJoined script head 1 transcripts
 
 module _ (script : ScriptValue) (first : BookValue) (head : PassView Step) (book : BookValue) (transcripts : List (List Answer)) (is : IsEnd script first head book transcripts) where
   same-frame : frame_of book ≡ frame_of first
   same-frame = is.framed ∙ is.frame
 
+  -- the capacity stays
   pub end-capacity : book.capacity ≡ first.capacity
   end-capacity = ap (λ (f : List ℕ). (book_of f []).capacity) same-frame
 
@@ -43,8 +54,10 @@ module _ (script : ScriptValue) (first : BookValue) (head : PassView Step) (book
   each : (session : ℕ) → IsSession (length script.sessions) session → IsServed script session book (length (of_session session script.sessions)) (of_session session transcripts)
   each = all-served script is.is_script head book is.is_book is.unspent is.framed is.seen is.own transcripts is.count is.joined
 
+  -- the book's steps are those of the run of the script, with these answers
   pub end-told : IsTold script book transcripts
   end-told = all-told script book is.is_book transcripts is.count end-sessions each
 
+  -- their order is legal
   pub end-legal : illegal_place book.capacity script (order_of book) ≡ None
   end-legal = all-legal script book is.is_book transcripts is.count end-sessions each

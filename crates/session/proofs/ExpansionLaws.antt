@@ -49,6 +49,7 @@ request-expands extent state (Some (Settling session)) small = tt
 request-expands extent state (Some (Looking session q)) small = λ reply terms is.
     subst (Expands extent (logarithm (signature (moves_of (looked_rows state.edits q))))) is (looked-expands extent state q small)
 
+-- each logarithm that is due in an order expands to the logarithm of its rows, for shapes whose words have at most 8 letters
 pub order-expands : (capacity : ℕ) (extent : Extent) (order : List ℕ) (run : Run) → extent.depth ≤ 8 → AreExpanded capacity extent order run
 order-expands capacity extent [] run small = tt
 order-expands capacity extent (session ∷ order) run small = (

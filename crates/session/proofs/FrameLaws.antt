@@ -8,16 +8,20 @@ use Rattle.book.specs.Play.{State, Request, after, opening, played, request_of, 
 use Rattle.book.specs.Books.{BookValue, state_of, with_request}
 use Rattle.session.specs.Holds.{book_of}
 
+-- books of one frame differ in their steps alone
 pub book-again : (frame : List ℕ) (old new : List Step) → book_of frame new ≡ record (book_of frame old) { history = new }
 book-again (width ∷ depth ∷ capacity ∷ sessions ∷ []) old new = refl
 book-again frame old new = refl
 
+-- their extents are the same
 pub book-extent : (frame : List ℕ) (old new : List Step) → (book_of frame new).extent ≡ (book_of frame old).extent
 book-extent frame old new = ap (λ (book : BookValue). book.extent) (book-again frame old new)
 
+-- so are their numbers of sessions
 pub book-sessions : (frame : List ℕ) (old new : List Step) → (book_of frame new).sessions ≡ (book_of frame old).sessions
 book-sessions frame old new = ap (λ (book : BookValue). book.sessions) (book-again frame old new)
 
+-- a book of a frame has the steps that it was made with
 pub book-history : (frame : List ℕ) (history : List Step) → (book_of frame history).history ≡ history
 book-history frame history = ap (λ (book : BookValue). book.history) (book-again frame [] history)
 
@@ -34,6 +38,7 @@ book-push frame history request =
     let step : Step = step_of (state_of book) request in
     book-again frame history (history ++ step ∷ []) ∙ ap (λ (steps : List Step). record book { history = steps ++ step ∷ [] }) (sym (book-history frame history))
 
+-- the state after more steps goes on from the state before them
 pub state-again : (frame : List ℕ) (old more : List Step) → state_of (book_of frame (old ++ more)) ≡ played (book_of frame old).capacity (state_of (book_of frame old)) (map request_of more)
 state-again frame old more =
     let book : BookValue = book_of frame old in

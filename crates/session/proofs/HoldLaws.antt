@@ -23,12 +23,18 @@ with_turn v history = record v { turn = true; taken = history }
 
 -- the pass v took this book, and then was w, with this label
 pub record Holds (v w : PassView Step) (book : BookValue) (label : ℕ) : Type 0 where
+  -- the session may do a step
   pub can : CanStep v
+  -- the book goes on from what the pass knew
   pub taken : IsTaken v book.history
+  -- it is the book of the pass's frame
   pub book_is : book ≡ book_of v.frame book.history
+  -- the pass then has the turn, and has taken these steps
   pub turn : w ≡ with_turn v book.history
+  -- its label is the number of its session
   pub label_is : label ≡ w.label
 
+-- what is known of a hold, in one record
 pub holds : {v w : PassView Step} {book : BookValue} {label : ℕ} → CanStep v → IsTaken v book.history → book ≡ book_of v.frame book.history → w ≡ with_turn v book.history
     → label ≡ w.label → Holds v w book label
 holds can taken book_is turn label_is = record { can = can; taken = taken; book_is = book_is; turn = turn; label_is = label_is }
@@ -43,6 +49,7 @@ module _ {v w : PassView Step} {book : BookValue} {label : ℕ} (is : Holds v w 
       subst (IsReady book) (sym label-own)
       (subst (λ (b : BookValue). IsReady b v.label) (sym is.book_is) (taken-ready v book.history is.can is.taken))
 
+  -- where the pass knows no pending look, there is none in the book
   pub holds-free : pending_in v ≡ None → IsFree book label
   holds-free free =
       ap (λ (session : ℕ). pending_of session (state_of book).pending) label-own
@@ -57,11 +64,13 @@ module _ {v w : PassView Step} {book : BookValue} {label : ℕ} (is : Holds v w 
       (subst (λ (b : BookValue). IsSettledBy (log_of b) (pending_of v.label (state_of b).pending) solved) (sym is.book_is)
       (taken-settles v book.history is.can is.taken solved by))
 
+  -- a book that keeps its frame keeps that of the pass
   pub holds-frame : (new : BookValue) → frame_of new ≡ frame_of book → frame_of new ≡ w.frame
   holds-frame new same =
       same ∙ ap frame_of is.book_is ∙ frame-of_book v.frame v.seen book.history (omega (arith, is.can.session.some, is.can.session.within))
       ∙ ap (λ (view : PassView Step). view.frame) (sym is.turn)
 
+  -- what a look gave in the book, it gave in the book as the pass sees it
   pub holds-looked : {q : Query} {looked : Looked} → IsLooked label q book looked → IsLooked v.label q (book_of v.frame book.history) looked
   holds-looked {q} {looked} gives =
       subst (λ (b : BookValue). IsLooked v.label q b looked) is.book_is (subst (λ (session : ℕ). IsLooked session q book looked) label-own gives)
@@ -81,6 +90,7 @@ module _ {v w : PassView Step} {book : BookValue} {label : ℕ} (is : Holds v w 
     pub holds-entry : (e : Step) × (new.history ≡ w.taken ++ e ∷ []) × (session_of e ≡ w.label)
     holds-entry = (step, added, of label (state_of book) ∙ is.label_is)
 
+    -- the pass that gives the book back has one step more, which answers the request
     pub holds-adds : (u : PassView Step) → ((e : Step) → new.history ≡ w.taken ++ e ∷ [] → u ≡ record w { seen = new.history; own = w.own ++ e ∷ []; turn = false; taken = [] })
         → Adds v u book.history (ask v.label)
     holds-adds u given = record {
@@ -94,8 +104,10 @@ module _ {v w : PassView Step} {book : BookValue} {label : ℕ} (is : Holds v w 
     }
 
 module _ {v w : PassView Step} {history : List Step} {request : Request} (adds : Adds v w history request) where
+  -- a hold changes neither the label nor the frame
   pub added-still : IsStill v w
   added-still = record { label = ap (λ (view : PassView Step). view.label) adds.after; frame = ap (λ (view : PassView Step). view.frame) adds.after }
 
+  -- after it the pass is without the turn
   pub added-idle : w.turn ≡ false
   added-idle = ap (λ (view : PassView Step). view.turn) adds.after

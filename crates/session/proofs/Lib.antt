@@ -13,7 +13,7 @@ mod OutcomeLaws
 mod PendingLaws
 mod PlaceLaws
 mod ReadyLaws
-mod RoundLaws
+pub mod RoundLaws
 mod RunLaws
 mod ServeLaws
 mod ServingLaws

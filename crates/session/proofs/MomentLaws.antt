@@ -16,11 +16,13 @@ use Rattle.session.specs.Moments.{Moment, own_moment, moments, moments_of}
 use Rattle.session.specs.Holds.{book_of}
 use Rattle.session.proofs.FrameLaws.{book-again}
 
+-- a step is of the session that asked for it
 pub asker-step : (step : Step) → asker (request_of step) ≡ session_of step
 asker-step (Edited session edit reply) = refl
 asker-step (Looked session q reply) = refl
 asker-step (Settled session kept) = refl
 
+-- a session's requests among those of two lists, one after the other
 pub moments-append : (capacity session : ℕ) (state : State) (first last : List Request)
     → moments capacity session state (first ++ last) ≡ moments capacity session state first ++ moments capacity session (played capacity state first) last
 moments-append capacity session state [] last = refl

@@ -57,5 +57,6 @@ module _ (script : ScriptValue) (run : TheRun) (capacity : ℕ)
     each = at-first;
   }
 
+  -- a run is one before its first step
   pub is_run-opening : IsRun script run
   is_run-opening = subst (IsRun script) (ap (λ (b : BookValue). record run { book = b }) (sym book_is)) is_run-first

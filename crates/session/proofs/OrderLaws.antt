@@ -25,6 +25,7 @@ module _ (capacity : ℕ) (extent : Extent) where
       let rest = units_in-more order session (stepped capacity extent first run) in
       omega (arith, rest)
 
+  -- where the session has something to do, the order is judged from the next place on
   pub legal-here : (place session : ℕ) (order : List ℕ) (run : Run) → has_next extent run session ≡ true
       → illegal_from capacity place extent (session ∷ order) run ≡ illegal_from capacity (suc place) extent order (stepped capacity extent session run)
   legal-here place session order run t =
@@ -36,12 +37,14 @@ module _ (capacity : ℕ) (extent : Extent) where
 
 -- ---- turns
 module _ (capacity steps : ℕ) (extent : Extent) (last : ℕ) where
+  -- the session whose turn is next takes the next place of the round
   pub turn-here : (session : ℕ) (run : Run) → next_turn extent last run ≡ Some session → turns_from capacity (suc steps) extent last run ≡ session ∷ turns_from capacity steps extent session (stepped capacity extent session run)
   turn-here session run e = ap (λ (o : Option ℕ). elim o as (λ _. List ℕ) [ None ↦ [] | Some s ↦ s ∷ turns_from capacity steps extent s (stepped capacity extent s run) ]) e
 
   no-turn-here : (run : Run) → next_turn extent last run ≡ None → turns_from capacity (suc steps) extent last run ≡ []
   no-turn-here run e = ap (λ (o : Option ℕ). elim o as (λ _. List ℕ) [ None ↦ [] | Some s ↦ s ∷ turns_from capacity steps extent s (stepped capacity extent s run) ]) e
 
+-- where no session has anything to do, the round ends
 pub no-turn : (capacity steps : ℕ) (extent : Extent) (last : ℕ) (run : Run) → next_turn extent last run ≡ None → turns_from capacity steps extent last run ≡ []
 no-turn capacity zero extent last run e = refl
 no-turn capacity (suc steps) extent last run e = no-turn-here capacity steps extent last run e
@@ -49,13 +52,18 @@ no-turn capacity (suc steps) extent last run e = no-turn-here capacity steps ext
 -- ---- a book that took the steps of an order
 -- the book took the first i steps of the order, and each of these sessions had anything to do
 pub record IsReplayed (capacity : ℕ) (script : ScriptValue) (order : List ℕ) (i : ℕ) (book : BookValue) : Type 0 where
+  -- the book has the capacity
   pub capacity_is : book.capacity ≡ capacity
+  -- it took the first i steps of the order
   pub order_is : order_of book ≡ take i order
+  -- the order is as legal as what is left of it
   pub legal : illegal_place capacity script order ≡ illegal_from capacity (suc i) script.extent (drop i order) (run_of script book)
 
 -- the book took the first i steps in turn, and this session had the last one
 pub record IsRound (capacity : ℕ) (script : ScriptValue) (i last : ℕ) (book : BookValue) : Type 0 where
+  -- the book has the capacity
   pub capacity_is : book.capacity ≡ capacity
+  -- the steps that it took, and those that the round then has, are the round
   pub rest : order_of book ++ turns_from capacity (most_steps script - i) script.extent last (run_of script book) ≡ round_order capacity script
 
 -- the step units of the steps that a book took
@@ -78,6 +86,7 @@ module _ (script : ScriptValue) (old new : BookValue) (session : ℕ) (c : new.c
       ∙ units_in-more old.capacity script.extent (order_of old) session (opening_run script)
       ∙ ap (λ (state : State). units_taken script old + units_of state (next_request script.extent session (run_of script old))) same
 
+  -- the units counted so far and those of this step are those of the run with this step
   pub units-on : (run_of script old).state ≡ state_of old → (first before after : ℕ) → before ≡ first + units_taken script old
       → after ≡ before + units_of (state_of old) (next_request script.extent session (run_of script old)) → after ≡ first + units_taken script new
   units-on same first before after b a =
@@ -89,6 +98,7 @@ module _ (script : ScriptValue) (old new : BookValue) (session : ℕ) (c : new.c
   run-stepped : (capacity : ℕ) → old.capacity ≡ capacity → stepped capacity script.extent session (run_of script old) ≡ run_of script new
   run-stepped capacity k = ap (λ (n : ℕ). stepped n script.extent session (run_of script old)) (sym k) ∙ sym run-more
 
+  -- one step more of an order that is given
   pub replayed-more : (capacity i d : ℕ) (order : List ℕ) → i < length order → session ≡ get_or order i d → has_next script.extent (run_of script old) session ≡ true
       → IsReplayed capacity script order i old → IsReplayed capacity script order (i + 1) new
   replayed-more capacity i d order h at has before = record {
@@ -107,6 +117,7 @@ module _ (script : ScriptValue) (old new : BookValue) (session : ℕ) (c : new.c
         ∙ ap (λ (j : ℕ). illegal_from capacity (suc j) script.extent (drop j order) (run_of script new)) next;
   }
 
+  -- one step more of a round
   pub round-more : (capacity i last : ℕ) → i < most_steps script → next_turn script.extent last (run_of script old) ≡ Some session
       → IsRound capacity script i last old → IsRound capacity script (i + 1) session new
   round-more capacity i last h turn before =
@@ -126,6 +137,7 @@ module _ (script : ScriptValue) (old new : BookValue) (session : ℕ) (c : new.c
 
 -- ---- the end of an order
 module _ (capacity : ℕ) (script : ScriptValue) (book : BookValue) where
+  -- before its first step a book has taken none of an order
   pub replayed-none : order_of book ≡ [] → book.capacity ≡ capacity → (order : List ℕ) → IsReplayed capacity script order 0 book
   replayed-none e c order = record {
     capacity_is = c;
@@ -158,15 +170,18 @@ module _ (capacity : ℕ) (script : ScriptValue) (book : BookValue) where
       all-taken order i h g before
       ∙ ap (λ (b : Bool). if b then Some (length order + 1) else None) (sym (any-turn script.extent (run_of script book)) ∙ turn)
 
+  -- an order is legal, where it is at its end and no session has anything left
   pub replay-ends : (order : List ℕ) (i : ℕ) → length order ≤ i → i ≤ length order → is_some (next_turn script.extent 0 (run_of script book)) ≡ false
       → IsReplayed capacity script order i book → illegal_place capacity script order ≡ None
   replay-ends order i h g turn before =
       all-taken order i h g before
       ∙ ap (λ (b : Bool). if b then Some (length order + 1) else None) (sym (any-turn script.extent (run_of script book)) ∙ turn)
 
+  -- a book that took all steps of an order has this order
   pub replayed-order : (order : List ℕ) (i : ℕ) → length order ≤ i → IsReplayed capacity script order i book → order_of book ≡ order
   replayed-order order i h before = before.order_is ∙ take_all i order h
 
+  -- before its first step a book has taken none of a round
   pub round-none : order_of book ≡ [] → book.capacity ≡ capacity → IsRound capacity script 0 0 book
   round-none e c = record {
     capacity_is = c;
@@ -190,6 +205,7 @@ module _ (capacity : ℕ) (script : ScriptValue) (book : BookValue) where
       ∙ ap (λ (n : ℕ). order_of book ++ turns_from capacity n script.extent last (run_of script book)) none
       ∙ before.rest
 
+-- before its first step a book has taken no units
 pub no-units : (script : ScriptValue) (book : BookValue) → order_of book ≡ [] → (first : ℕ) → first ≡ first + units_taken script book
 no-units script book e first =
     let none : units_taken script book ≡ 0 = ap (λ (o : List ℕ). units_in book.capacity script.extent o (opening_run script)) e in
@@ -197,6 +213,7 @@ no-units script book e first =
 
 -- ---- a book that took all steps of an order
 module _ (capacity : ℕ) (script : ScriptValue) (book : BookValue) (order : List ℕ) (c : book.capacity ≡ capacity) (e : order_of book ≡ order) where
+  -- the units taken are those of the order
   pub all-units : units_taken script book ≡ units_in capacity script.extent order (opening_run script)
   all-units =
       ap (λ (n : ℕ). units_in n script.extent (order_of book) (opening_run script)) c

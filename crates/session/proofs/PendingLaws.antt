@@ -5,6 +5,7 @@ use Rattle.std.proofs.lemmas.Bool.{cases_Bool}
 use Rattle.std.proofs.lemmas.Bool.Decides.{nat_tests}
 use Rattle.std.proofs.lemmas.List.{append-nil, append_assoc, length-append, length-set, length-replicate, get_or-set_other}
 use Rattle.std.proofs.lemmas.List.Elements.{All-replicate, All-set, All-weaker}
+use Rattle.book.proofs.SeenLaws.{unless-edits}
 use Rattle.definitions.specs.Signature.{weight}
 use Rattle.definitions.specs.Rows.{moves_of}
 use Rattle.versions.specs.declared.edit.Edit.{Edit}
@@ -20,7 +21,9 @@ use Rattle.book.specs.Books.{BookValue, state_of}
 -- ---- edits
 -- a request keeps the edits, and may add some
 pub record IsLater (old new : List Accepted) : Type 0 where
+  -- the edits that were added
   pub more : List Accepted
+  -- they stand after the others
   pub are : new ≡ old ++ more
 
 same-later : (edits : List Accepted) → IsLater edits edits
@@ -34,11 +37,7 @@ edit-later edits e =
       | inr refused ↦ record { more = []; are = ap (λ t. cond t (edits ++ more) edits) refused ∙ sym (append-nil edits) }
     ]
 
--- a look keeps the edits, refused or not
-unless-edits : (refusal : Option LookReply) (old new : State) → new.edits ≡ old.edits → (unless_refused refusal old new).edits ≡ old.edits
-unless-edits None old new same = same
-unless-edits (Some reply) old new same = refl
-
+-- a request keeps the edits, and may add some
 pub edits-later : (capacity : ℕ) (state : State) (request : Request) → IsLater state.edits (after capacity state request).edits
 edits-later capacity state (Editing session e) = edit-later state.edits e
 edits-later capacity state (Looking session q) =
@@ -49,6 +48,7 @@ later-still : (first next last : List Accepted) → IsLater first next → IsLat
 later-still first next last one two =
     record { more = one.more ++ two.more; are = two.are ∙ ap (λ (edits : List Accepted). edits ++ two.more) one.are ∙ append_assoc first one.more two.more }
 
+-- so do any number of requests
 pub played-later : (capacity : ℕ) (state : State) (requests : List Request) → IsLater state.edits (played capacity state requests).edits
 played-later capacity state [] = same-later state.edits
 played-later capacity state (request ∷ requests) =
@@ -119,6 +119,7 @@ played-of : (capacity : ℕ) (state : State) (requests : List Request) → AreOf
 played-of capacity state [] are = are
 played-of capacity state (request ∷ requests) are = played-of capacity (after capacity state request) requests (after-of capacity state request are)
 
+-- each pending look of a book is of a version that there is
 pub pending-of_versions : (book : BookValue) → All (IsOfVersion (state_of book).edits) (state_of book).pending
 pending-of_versions book = played-of book.capacity (opening book.sessions) (map request_of book.history) (All-replicate (IsOfVersion []) book.sessions None tt)
 

@@ -60,6 +60,7 @@ module _ (script : ScriptValue) (run : TheRun) (session : ℕ) (is_script : IsSc
       let within : length (of_session session script.sessions) ≤ sum_by length script.sessions = get_or-le-sum_by length script.sessions (session - 1) [] place in
       omega (arith, within, is_script.few_commands)
 
+  -- the session may do a step in the book
   pub is_ready : IsReady run.book session
   is_ready =
       let at : IsAt script run session = is.each session is_session in
@@ -69,6 +70,7 @@ module _ (script : ScriptValue) (run : TheRun) (session : ℕ) (is_script : IsSc
         steps = omega (arith, at.steps, at.within, few-commands);
       }
 
+  -- it has its place in each list
   pub has_places : HasPlaces session run
   has_places = record {
     some = is_session.some;
@@ -77,6 +79,7 @@ module _ (script : ScriptValue) (run : TheRun) (session : ℕ) (is_script : IsSc
     transcripts = omega (arith, is.transcripts, is_session.within);
   }
 
+  -- where its look is pending, the solution stands beside it
   pub is_pending_solved : is_some (pending_of session (state_of run.book).pending) ≡ true → IsPendingSolved session run
   is_pending_solved some =
       pending-solved session run (pending_of session (state_of run.book).pending) (slice_index_or run.solved.items (session - 1) None) refl refl (is.each session is_session).solved some
@@ -111,6 +114,7 @@ module _ (script : ScriptValue) (run : TheRun) (session : ℕ) (is_script : IsSc
       ((is.each session is_session).left ∙ drop-cons commands t command (some-command none) ∙ ap (λ (c : Command). c ∷ drop (suc t) commands) (sym at))
       ∙ next-command script.extent session (pending_of session (state_of run.book).pending) command (drop (suc t) commands) none
 
+  -- the next command is one of the script's, with its ranges
   pub is_command : (command : Command) → is_some (pending_of session (state_of run.book).pending) ≡ false
       → command ≡ slice_index_or (of_session session script.sessions) (slice_index_or run.taken.items (session - 1) 0) command → IsCommand script.extent command
   is_command command none at =
@@ -118,6 +122,7 @@ module _ (script : ScriptValue) (run : TheRun) (session : ℕ) (is_script : IsSc
       (All-get_or (IsCommand script.extent) (of_session session script.sessions) (slice_index_or run.taken.items (session - 1) 0) command (some-command none)
       (All-get_or (All (IsCommand script.extent)) script.sessions (session - 1) [] (omega (arith, is_session.some, is_session.within)) is_script.commands))
 
+  -- the run keeps its form after the step
   pub run-after : (extent : Extent) (request : Request) (new : TheRun) → extent ≡ script.extent → session_of (step_of (state_of run.book) request) ≡ session
       → next_request script.extent session (run_of script run.book) ≡ Some request → IsAfter extent session request run new → IsRun script new
   run-after extent request new shape of next step = is_run-after script run new session request is is_session of next (subst (λ (e : Extent). IsAfter e session request run new) shape step)

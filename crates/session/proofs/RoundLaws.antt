@@ -22,7 +22,8 @@ abbrev steps_left : Run → ℕ
 steps_left run = 2 * sum_by length run.left + sum_by begun run.state.pending
 
 -- ---- lists
-command-taken : (left : List (List Command)) (i : ℕ) (command : Command) (rest : List Command) → get_or left i [] ≡ command ∷ rest → sum_by length (set left i (drop 1 (get_or left i []))) + 1 ≡ sum_by length left
+-- where a command is taken, one less is left
+pub command-taken : (left : List (List Command)) (i : ℕ) (command : Command) (rest : List Command) → get_or left i [] ≡ command ∷ rest → sum_by length (set left i (drop 1 (get_or left i []))) + 1 ≡ sum_by length left
 command-taken left i command rest e =
     elim (cases_lt i (length left)) [
       | inl l ↦
@@ -54,6 +55,7 @@ look-settled pending i look e =
 
 -- ---- a step takes one of the steps that are left at least
 module _ (capacity : ℕ) (extent : Extent) (session : ℕ) (run : Run) where
+  -- a look begins one settle at most
   look-begins : (refusal : Option LookReply) (q : Query) → sum_by begun (unless_refused refusal run.state (after_found session q run.state)).pending ≤ sum_by begun run.state.pending + 1
   look-begins (Some reply) q = omega arith
   look-begins None q = look-begun run.state.pending (session - 1) _

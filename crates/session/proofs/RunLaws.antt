@@ -34,6 +34,7 @@ use Rattle.session.specs.Runs.{IsRun, IsAt, IsAfter, IsSolvedFor, begun, takes, 
 use Rattle.session.proofs.PendingLaws.{IsLater, IsOfVersion, edits-later, pending-length, pending-of_versions, pending-other}
 
 -- ---- the order and the run
+-- one step more is one place more of the order
 pub order-push : (book : BookValue) (session : ℕ) (request : Request) → session_of (step_of (state_of book) request) ≡ session → order_of (book_with request book) ≡ order_of book ++ session ∷ []
 order-push book session request of = map_push session_of book.history (step_of (state_of book) request) ∙ ap (λ (s : ℕ). order_of book ++ s ∷ []) of
 
@@ -48,6 +49,7 @@ run-push script book session request of next =
     ∙ ap (λ (o : Option Request). with_next book.capacity script.extent session o (run_of script book)) next
 
 -- ---- requests
+-- what a session does next hangs on its pending look and its commands alone
 pub next-is : (extent : Extent) (session : ℕ) (run : Run) → 1 ≤ session
     → next_request extent session run ≡ next_of extent session (pending_of session run.state.pending) (of_session session run.left)
 next-is extent zero run some = absurd (omega arith)
@@ -90,23 +92,27 @@ begun-after extent capacity state (Settling s) session left of within next =
     omega (arith, begun-settled extent session (pending_of session state.pending) left s next, ap begun none)
 
 -- ---- the commands that are left
+-- a request takes its session's first command, or none
 pub left-here : (session : ℕ) (request : Request) (left : List (List Command)) → session - 1 < length left
     → of_session session (left_after session request left) ≡ drop (takes request) (of_session session left)
 left-here session (Editing s e) left within = get_or-set_same left (session - 1) (drop 1 (of_session session left)) [] within
 left-here session (Looking s q) left within = get_or-set_same left (session - 1) (drop 1 (of_session session left)) [] within
 left-here session (Settling s) left within = refl
 
+-- it takes none of another session
 pub left-other : (session : ℕ) (request : Request) (left : List (List Command)) (other : ℕ) → other - 1 ≢ session - 1 → of_session other (left_after session request left) ≡ of_session other left
 left-other session (Editing s e) left other not = get_or-set_other left (session - 1) (other - 1) (drop 1 (of_session session left)) [] not
 left-other session (Looking s q) left other not = get_or-set_other left (session - 1) (other - 1) (drop 1 (of_session session left)) [] not
 left-other session (Settling s) left other not = refl
 
+-- there are as many lists as before
 pub left-length : (session : ℕ) (request : Request) (left : List (List Command)) → length (left_after session request left) ≡ length left
 left-length session (Editing s e) left = length-set left (session - 1) (drop 1 (of_session session left))
 left-length session (Looking s q) left = length-set left (session - 1) (drop 1 (of_session session left))
 left-length session (Settling s) left = refl
 
 -- ---- answers
+-- answers of two lists are due one after the other
 pub shows-append : (extent : Extent) (answers more : List Answer) (dues last : List Due) → ShowsEach extent answers dues → ShowsEach extent more last → ShowsEach extent (answers ++ more) (dues ++ last)
 shows-append extent [] more [] last each then = then
 shows-append extent [] more (due ∷ dues) last each then = absurd each
@@ -213,6 +219,7 @@ module _ (script : ScriptValue) (old new : TheRun) (session : ℕ) (request : Re
             );
       }
 
+  -- the other sessions stay where they are
   at-other : (other : ℕ) → IsSession (length script.sessions) other → other ≢ session → IsAt script stepped_run other
   at-other other there not =
       let was : IsAt script old other = run.each other there in

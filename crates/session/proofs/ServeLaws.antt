@@ -66,10 +66,15 @@ settled-by log (Some look) solved some is = is
 
 -- what an answer to a look leaves: its moment, and its solution where the look is pending
 pub record IsAnswered (script : ScriptValue) (v w : PassView Step) (history : List Step) (ask : Ask) (answer : Answer) (solved : Option Solved) : Type 0 where
+  -- the hold added the look of the query
   pub adds : Adds v w history (Looking v.label (query_for script.extent ask))
+  -- the answer is the one that is due to it
   pub shows : Shows script.extent answer (looked script.extent (state_of (book_of v.frame history)) (query_for script.extent ask))
+  -- its numbers are those of members
   pub members : HasMembers script.extent answer
+  -- the solution settles the look that is pending
   pub settles : IsSolvedFor (log_of (seen_book w)) (pending_in w) solved
+  -- there is one exactly where the look is pending
   pub pending : is_some solved ≡ is_some (pending_in w)
 
 -- the look that a session takes by the shape and the number that it read, for its next command
@@ -86,6 +91,7 @@ module _ (script : ScriptValue) (v w : PassView Step) (taken : ℕ) (answers : L
   can : CanStep v
   can = can-step script v taken answers serving is_script (commands.Ask ask) next
 
+  -- what the session looked at is the query of its next command
   pub looked-for : IsLookedFor extent session ask old gave
   looked-for = record {
     extent_is = shape ∙ sym serving.served.extent ∙ sym (taken-extent v history can adds.taken);
@@ -100,6 +106,7 @@ module _ (script : ScriptValue) (v w : PassView Step) (taken : ℕ) (answers : L
       ∙ ap (λ (query : Query). with_request (Looking v.label query) old) (sym asked)
       ∙ sym (adds-book v w history (Looking v.label q) adds)
 
+  -- an answer that is due, with its solution, is what such a look leaves
   pub answered : (answer : Answer) (solved : Option Solved) → ((b : BookValue) → IsLookedFor extent session ask b gave → Shows extent answer (looked extent (state_of b) (query_for extent ask)))
       → HasMembers extent answer
       → ((b : BookValue) → IsLookedFor extent session ask b gave
@@ -130,6 +137,7 @@ module _ (script : ScriptValue) (v w : PassView Step) (taken : ℕ) (answers : L
 -- ---- after the answer
 module _ (script : ScriptValue) (v w : PassView Step) (taken : ℕ) (answers : List Answer) (serving : IsServing script v taken answers) (is_script : IsScript script)
     (ask : Ask) (next : IsNextCommand script v.label taken (commands.Ask ask)) (history : List Step) (answer : Answer) where
+  -- without a solution the command is done with this answer
   pub serving-alone : IsAnswered script v w history ask answer None → IsServing script w (taken + 1) (answers ++ answer ∷ [])
   serving-alone is =
       after-look script v taken answers serving w history ask answer is_script next is.adds is.shows is.members (none-pending (pending_in w) (sym is.pending))
@@ -139,9 +147,11 @@ module _ (script : ScriptValue) (v w : PassView Step) (taken : ℕ) (answers : L
       none-pending (Some look) none = absurd (cc)
 
   module _ (solved : Solved) (is : IsAnswered script v w history ask answer (Some solved)) where
+    -- with one the session may settle
     pub settle-can : CanStep w
     settle-can = can-settle script v taken answers serving w history ask answer is_script next is.adds is.shows is.members
 
+    -- and the solution is that of its pending look
     pub settle-by : IsSettledBy (log_of (seen_book w)) (pending_in w) solved.nodes.items
     settle-by = settled-by (log_of (seen_book w)) (pending_in w) solved (sym is.pending) is.settles
 

@@ -59,9 +59,11 @@ step-by state (Looking session q) = refl
 step-by state (Settling session) = refl
 
 -- ---- one hold
+-- after a hold the pass sees the book with the request
 pub adds-book : (v w : PassView Step) (history : List Step) (request : Request) → Adds v w history request → seen_book w ≡ with_request request (book_of v.frame history)
 adds-book v w history request adds = ap (λ (u : PassView Step). seen_book u) adds.after ∙ book-push v.frame history request
 
+-- it keeps its label
 pub adds-label : (v w : PassView Step) (history : List Step) (request : Request) → Adds v w history request → w.label ≡ v.label
 adds-label v w history request adds = ap (λ (u : PassView Step). u.label) adds.after
 
@@ -165,6 +167,7 @@ module _ (script : ScriptValue) (v : PassView Step) (taken : ℕ) (answered : Li
       let left : length (of_session v.label script.sessions) - taken ≡ suc (length next.rest) = sym (length-drop taken (of_session v.label script.sessions)) ∙ ap length next.left in
       omega (arith, few-commands is, left, own-most)
 
+  -- a session with commands left, or just without, may do a step more, as far as steps are counted
   pub can-serve : IsScript script → taken ≤ length (of_session v.label script.sessions) → CanStep v
   can-serve is within = record {
     session = record { some = serving.session.some; within = omega (arith, serving.served.sessions, serving.session.within) };
@@ -172,6 +175,7 @@ module _ (script : ScriptValue) (v : PassView Step) (taken : ℕ) (answered : Li
     few = omega (arith, own-most, few-commands is, within);
   }
 
+  -- so may one that has a next command
   pub can-step : IsScript script → (command : Command) → IsNextCommand script v.label taken command → CanStep v
   can-step is command next =
       let left : length (of_session v.label script.sessions) - taken ≡ suc (length next.rest) = sym (length-drop taken (of_session v.label script.sessions)) ∙ ap length next.left in
@@ -224,6 +228,7 @@ module _ (script : ScriptValue) (v : PassView Step) (taken : ℕ) (answered : Li
       ∙ ap length (adds-moment u w history request can of adds)
       ∙ length-append (moments_of (seen_book u) u.label) (moment ∷ [])
 
+  -- after an edit, one command more is done
   pub after-edit : (w : PassView Step) (history : List Step) (edit : Edit) (reply : EditReply) → CanStep v → IsNextCommand script v.label taken (commands.Edit edit)
       → Adds v w history (Editing v.label edit) → reply ≡ edit_reply (state_of (book_of v.frame history)).edits edit
       → IsServing script w (taken + 1) (answered ++ answers.Edit reply ∷ [])
@@ -250,6 +255,7 @@ module _ (script : ScriptValue) (v : PassView Step) (taken : ℕ) (answered : Li
     look-one : length (moments_of (seen_book w) w.label) ≡ length (moments_of (seen_book v) v.label) + 1
     look-one = one-more v w history (Looking v.label (query_for script.extent ask)) look-can refl adds
 
+    -- after a look that isn't pending, one command more is done
     pub after-look : pending_in w ≡ None → IsServing script w (taken + 1) (answered ++ answer ∷ [])
     after-look none = serving-more w answer look-taken none (omega (arith, look-one))
 
@@ -264,6 +270,7 @@ module _ (script : ScriptValue) (v : PassView Step) (taken : ℕ) (answered : Li
           few = omega (arith, own, own-few is_script (commands.Ask ask) next);
         }
 
+    -- after a look and its settle, one command more is done
     pub after-settle : (u : PassView Step) (later : List Step) → Adds w u later (Settling w.label) → (look : _) → pending_in w ≡ Some look
         → IsServing script u (taken + 1) (answered ++ answer ∷ [])
     after-settle u later settles look pending =

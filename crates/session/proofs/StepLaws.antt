@@ -16,6 +16,7 @@ use Rattle.session.specs.Runs.{IsSolvedFor, takes, IsAfter, HasPlaces}
 use Rattle.session.proofs.PlaceLaws.{pending-put, solved-none}
 
 -- ---- settles
+-- what a settle leaves of a run
 pub after-settle : (session : ℕ) (old new : TheRun) → IsReady old.book session → HasPlaces session old → new.book ≡ with_request (Settling session) old.book
     → new.taken.items ≡ old.taken.items → new.solved.items ≡ set old.solved.items (session - 1) None → new.transcripts.items ≡ old.transcripts.items
     → IsAfter old.book.extent session (Settling session) old new
@@ -45,6 +46,7 @@ module _ (extent : Extent) (session : ℕ) (request : Request) (old new : TheRun
   abbrev at : ℕ
   at = session - 1
 
+  -- what a command leaves of a run: its answer, one command taken, and the solution beside a pending look
   pub after-command : takes request ≡ 1 → (answer : Answer) → ShowsEach extent (answer ∷ []) (answers_to extent (state_of old.book) request) → HasMembers extent answer
       → (count : ℕ) → count ≡ get_or old.taken.items (session - 1) count → new.taken.items ≡ set old.taken.items (session - 1) (count + 1)
       → (held after : List Answer) → held ≡ get_or old.transcripts.items (session - 1) held → after ≡ held ++ answer ∷ []

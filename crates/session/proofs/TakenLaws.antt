@@ -55,6 +55,7 @@ others-pending capacity session sessions state (step ∷ steps) some of none =
     ∙ pending-other capacity state (request_of step) session apart
 
 -- ---- how many steps
+-- the steps with a session's label are as many as are counted for it
 pub count-own : (session : ℕ) (history : List Step) → length (of_label session_of session history) ≡ count_of session history
 count-own session history =
     ap length (filter_agree (λ (s : Step). session_of s == session) (λ (s : Step). nat_eq session (session_of s)) (λ s. grind (arith, nat_tests)) history)
@@ -73,15 +74,18 @@ module _ (v : PassView Step) (history : List Step) (can : CanStep v) (is : IsTak
   abbrev came : List Step
   came = is.seen.0
 
+  -- the book that is found has the extent
   pub taken-extent : found.extent ≡ (seen_book v).extent
   taken-extent = book-extent v.frame v.seen history
 
+  -- and the sessions
   pub taken-sessions : found.sessions ≡ (seen_book v).sessions
   taken-sessions = book-sessions v.frame v.seen history
 
   taken-state : state_of found ≡ played (seen_book v).capacity (state_of (seen_book v)) (map request_of came)
   taken-state = ap (λ (steps : List Step). state_of (book_of v.frame steps)) (sym is.seen.1) ∙ state-again v.frame v.seen came
 
+  -- the session may do a step in it
   pub taken-ready : IsReady found v.label
   taken-ready =
       let count : count_of v.label found.history ≡ length v.own =

@@ -17,7 +17,7 @@ use Rattle.book.specs.Play.{session_of}
 use Rattle.book.specs.Books.{BookValue, IsBook, IsSession}
 use Rattle.session.specs.declared.answer.Answer.{Answer}
 use Rattle.session.specs.declared.answer.Outcome.{Outcome}
-use Rattle.session.specs.declared.held.Held.{Held}
+use Rattle.session.specs.declared.held.BookInTurn.{BookInTurn}
 use Rattle.session.specs.declared.threads.Worked.{Worked}
 use Rattle.session.specs.Play.{of_session, due_outcome}
 use Rattle.session.specs.Answers.{ShowsEach, IsOutcome}
@@ -36,18 +36,20 @@ some-item [] i below = absurd (omega arith)
 some-item (x ∷ xs) i below = x
 
 -- ---- passes that are new
-module _ {g : Ghosts Held Step} (t : Turnstile Held Step) (frame : List ℕ) where
-  pub new-more : (label : ℕ) (ps : List (Pass Held Step g)) (p : Pass Held Step g) → AreNew t frame label ps → IsNew t frame (label + length ps) p → AreNew t frame label (ps ++ p ∷ [])
+module _ {g : Ghosts BookInTurn Step} (t : Turnstile BookInTurn Step) (frame : List ℕ) where
+  -- one new pass more, with the next label
+  pub new-more : (label : ℕ) (ps : List (Pass BookInTurn Step g)) (p : Pass BookInTurn Step g) → AreNew t frame label ps → IsNew t frame (label + length ps) p → AreNew t frame label (ps ++ p ∷ [])
   new-more label [] p all new = (subst (λ (n : ℕ). IsNew t frame n p) (omega arith) new, tt)
   new-more label (q ∷ ps) p all new = (all.0, new-more (suc label) ps p all.1 (subst (λ (n : ℕ). IsNew t frame n p) (omega arith) new))
 
-  pub new-at : (label : ℕ) (ps : List (Pass Held Step g)) (i : ℕ) (d p : Pass Held Step g) → AreNew t frame label ps → i < length ps → slice_index_or ps i d ≡ p → IsNew t frame (label + i) p
+  -- the i-th of them has the i-th label
+  pub new-at : (label : ℕ) (ps : List (Pass BookInTurn Step g)) (i : ℕ) (d p : Pass BookInTurn Step g) → AreNew t frame label ps → i < length ps → slice_index_or ps i d ≡ p → IsNew t frame (label + i) p
   new-at label [] i d p all below is = absurd (omega arith)
   new-at label (q ∷ ps) zero d p all below is = subst (λ (n : ℕ). IsNew t frame n p) (omega arith) (subst (IsNew t frame label) is all.0)
   new-at label (q ∷ ps) (suc i) d p all below is = subst (λ (n : ℕ). IsNew t frame n p) (omega arith) (new-at (suc label) ps i d p all.1 (omega arith) is)
 
 -- ---- passes that come back
-module _ (t : Turnstile Held Step) (frame : List ℕ) (script : ScriptValue) where
+module _ (t : Turnstile BookInTurn Step) (frame : List ℕ) (script : ScriptValue) where
   pub worked-each : (label : ℕ) (ws : List Worked) → ((i : ℕ) (d : Worked) → i < length ws → HasWorked t frame script (label + i) (slice_index_or ws i d)) → HaveWorked t frame script label ws
   worked-each label [] each = tt
   worked-each label (w ∷ ws) each = (
@@ -55,6 +57,7 @@ module _ (t : Turnstile Held Step) (frame : List ℕ) (script : ScriptValue) whe
     worked-each (suc label) ws (λ i d below. subst (λ (n : ℕ). HasWorked t frame script n (slice_index_or ws i d)) (omega arith) (each (suc i) d (omega arith))),
   )
 
+  -- the i-th of those that worked has the i-th label
   pub worked-at : (label : ℕ) (ws : List Worked) (i : ℕ) (d w : Worked) → HaveWorked t frame script label ws → i < length ws → slice_index_or ws i d ≡ w → HasWorked t frame script (label + i) w
   worked-at label [] i d w all below is = absurd (omega arith)
   worked-at label (v ∷ ws) zero d w all below is = subst (λ (n : ℕ). HasWorked t frame script n w) (omega arith) (subst (HasWorked t frame script label) is all.0)
@@ -66,13 +69,17 @@ prefix-trans xs ys zs p q = (p.0 ++ q.0, sym (append_assoc xs p.0 q.0) ∙ (ap (
 
 -- a pass knows more than another: it has seen more, and joined more
 pub record KnowsMore (old new : PassView Step) : Type 0 where
+  -- the frame stays
   pub frame : new.frame ≡ old.frame
+  -- nothing that was seen is forgotten
   pub seen : IsPrefix old.seen new.seen
+  -- nor any pass that was joined
   pub joined : (j : ℕ × List Step) → Contains old.joined j → Contains new.joined j
 
 abbrev joining : PassView Step → PassView Step → PassView Step
 joining old other = record old { seen = longer old.seen other.seen; joined = (other.label, other.own) ∷ old.joined }
 
+-- a pass knows more once another is joined into it
 pub knows-more : (old new other : PassView Step) → new ≡ joining old other → IsPrefix old.seen new.seen → KnowsMore old new
 knows-more old new other is seen = record {
   frame = ap (λ (v : PassView Step). v.frame) is;
@@ -105,16 +112,19 @@ module _ (script : ScriptValue) (old new : PassView Step) (more : KnowsMore old 
     own = more.joined (label, is.pass.own) is.own;
   }
 
+  -- what was joined into a pass stays so when it knows more
   pub are-joined-later : (label : ℕ) (transcripts : List (List Answer)) → AreJoined script old label transcripts → AreJoined script new label transcripts
   are-joined-later label [] are = tt
   are-joined-later label (answers ∷ transcripts) are = (joined-later label answers are.0, are-joined-later (suc label) transcripts are.1)
 
+-- one session more was joined
 pub joined-more : (script : ScriptValue) (head : PassView Step) (label : ℕ) (transcripts : List (List Answer)) (answers : List Answer) → AreJoined script head label transcripts
     → IsJoined script head (label + length transcripts) answers → AreJoined script head label (transcripts ++ answers ∷ [])
 joined-more script head label [] answers are is = (subst (λ (n : ℕ). IsJoined script head n answers) (omega arith) is, tt)
 joined-more script head label (first ∷ transcripts) answers are is =
     (are.0, joined-more script head (suc label) transcripts answers are.1 (subst (λ (n : ℕ). IsJoined script head n answers) (omega arith) is))
 
+-- the session at a place was joined
 pub joined-at : (script : ScriptValue) (head : PassView Step) (label : ℕ) (transcripts : List (List Answer)) (i : ℕ) → AreJoined script head label transcripts → i < length transcripts
     → IsJoined script head (label + i) (slice_index_or transcripts i [])
 joined-at script head label [] i are below = absurd (omega arith)
@@ -171,6 +181,7 @@ module _ (script : ScriptValue) (is_script : IsScript script) (head : PassView S
         few : length (commands label) ≤ length (commands pass.label)
         few = omega (arith, ap (λ (l : ℕ). length (commands l)) is.label_is)
 
+  -- each session was served, as the book that comes out tells it
   pub all-served : (transcripts : List (List Answer)) → length transcripts ≡ length script.sessions → AreJoined script head 1 transcripts
       → (session : ℕ) → IsSession (length script.sessions) session → IsServed script session book (length (commands session)) (of_session session transcripts)
   all-served transcripts count are session here =

@@ -47,12 +47,15 @@ first-numbers i (suc n) h =
     ]
 
 module _ (p : ℕ → Bool) (i n : ℕ) where
+  -- the number i + 1 is the first after i, where it passes the test
   pub found-next : i < n → p (i + 1) ≡ true → find p (drop i (up_to n)) ≡ Some (i + 1)
   found-next h t = ap (find p) (first-number i n h) ∙ ap (λ (b : Bool). cond b (Some (i + 1)) (find p (drop (i + 1) (up_to n)))) t
 
+  -- where it doesn't, the search goes on after it
   pub passed-next : i < n → p (i + 1) ≡ false → find p (drop i (up_to n)) ≡ find p (drop (i + 1) (up_to n))
   passed-next h t = ap (find p) (first-number i n h) ∙ ap (λ (b : Bool). cond b (Some (i + 1)) (find p (drop (i + 1) (up_to n)))) t
 
+  -- past n there is none
   pub none-next : n ≤ i → find p (drop i (up_to n)) ≡ None
   none-next h = ap (find p) (none-after i n h)
 
@@ -61,10 +64,12 @@ module _ (p : ℕ → Bool) (last n : ℕ) where
   later-turn : (later : Option ℕ) → find p (drop last (up_to n)) ≡ later → option_or later (find p (take last (up_to n))) ≡ find p (turns_after last n)
   later-turn later e = ap (λ (o : Option ℕ). option_or o (find p (take last (up_to n)))) (sym e) ∙ sym (find-append p (drop last (up_to n)) (take last (up_to n)))
 
+  -- what is found after the last session is found in turn
   pub turn-later : (later : Option ℕ) → later ≡ find p (drop last (up_to n)) → is_some later ≡ true → later ≡ find p (turns_after last n)
   turn-later (Some session) e t = later-turn (Some session) (sym e)
   turn-later None e t = cc
 
+  -- else it is what is found from the first session on
   pub turn-earlier : (later earlier : Option ℕ) → last ≤ n → later ≡ find p (drop last (up_to n)) → is_some later ≡ false → earlier ≡ find p (drop 0 (up_to last)) → earlier ≡ find p (turns_after last n)
   turn-earlier (Some session) earlier h e t f = cc
   turn-earlier None earlier h e t f = f ∙ ap (find p) (sym (first-numbers last n h)) ∙ later-turn None (sym e)
@@ -78,6 +83,7 @@ found-is p P (y ∷ xs) x all e = at (p y) refl e (found-is p P xs x (All-tail P
     at true t f later = let same : y ≡ x = cc in subst (λ (z : ℕ). (p z ≡ true) × P z) same (t, All-head P y xs all)
     at false t f later = later f
 
+-- the numbers up to n are at most m, where n is
 pub numbers-within : (m n : ℕ) → n ≤ m → All (λ s. s ≤ m) (up_to n)
 numbers-within m zero h = All-nil (λ s. s ≤ m)
 numbers-within m (suc n) h = All-append (λ s. s ≤ m) (up_to n) (suc n ∷ []) (numbers-within m n (omega arith)) (All-cons (λ s. s ≤ m) (suc n) [] h (All-nil (λ s. s ≤ m)))
@@ -99,6 +105,7 @@ any-found p (x ∷ xs) = at (p x) (any-found p xs)
     at true e = refl
     at false e = e
 
+-- from the first session on a turn is found exactly where any session has something to do
 pub any-turn : (extent : Extent) (run : Run) → is_some (next_turn extent 0 run) ≡ has_any extent run
 any-turn extent run =
     let p = has_next extent run in

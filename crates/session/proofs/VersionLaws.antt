@@ -34,6 +34,7 @@ versions-are capacity extent [] run = refl
 versions-are capacity extent (session ∷ order) run =
     versions-step capacity extent order run session (next_request extent session run) (λ r. versions-are capacity extent order r)
 
+-- versions never fall along an order of a script, since they don't in the play of any requests
 pub never-fall : (capacity : ℕ) (script : ScriptValue) (order : List ℕ)
     → ((capacity : ℕ) → (state : State) → (requests : List Request) → AllPairs (λ v w. v ≤ w) (versions_seen (steps_of capacity state requests))) → NeverFall capacity script order
 never-fall capacity script order rise =

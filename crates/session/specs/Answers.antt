@@ -1,6 +1,6 @@
 -- When an answer that is kept, whose signature is a tensor, is the one that is due.
 use Rattle.std.specs.Prelude.{◌≡◌, ℕ, List, [], ◌∷◌, ℤ, All, None}
-use Rattle.hall_set.specs.Hall.{InHall, hall_list}
+use Rattle.definitions.specs.Hall.{InHall, hall_list}
 use Rattle.definitions.specs.Words.{Extent, IsWord}
 use Rattle.scaled_tensor.specs.Tensors.{TensorValue, coefficient}
 use Rattle.session.specs.declared.answer.Answer.{Answer}
@@ -15,6 +15,7 @@ pub record HasSeries (extent : Extent) (tensor : TensorValue) (series : List ℕ
   pub extent_is : tensor.extent ≡ extent
   pub coefficients : (word : List ℕ) → IsWord extent word → coefficient tensor word ≡ series word
 
+-- the answer that is kept is the one that is due
 abbrev pub Shows : Extent → Answer → Due → Type 0
 Shows extent (answers.Edit reply) (Edited due) = reply ≡ due
 Shows extent (answers.Sig reply tensor) (Valued due series) = (reply ≡ due) × HasSeries extent tensor series
@@ -22,11 +23,13 @@ Shows extent (answers.Log reply lie) (Logged due terms) = (reply ≡ due) × (li
 Shows extent (answers.Refused reply) (Refused due) = reply ≡ due
 Shows extent _ _ = ⊥
 
+-- so it is with each answer of a session
 abbrev pub ShowsEach : Extent → List Answer → List Due → Type 0
 ShowsEach extent [] [] = Unit {0}
 ShowsEach extent (answer ∷ answers) (due ∷ dues) = Shows extent answer due × ShowsEach extent answers dues
 ShowsEach extent _ _ = ⊥
 
+-- and with each session
 abbrev pub ShowsAll : Extent → List (List Answer) → List (List Due) → Type 0
 ShowsAll extent [] [] = Unit {0}
 ShowsAll extent (transcript ∷ transcripts) (dues ∷ all) = ShowsEach extent transcript dues × ShowsAll extent transcripts all
@@ -48,5 +51,6 @@ abbrev pub HasMembers : Extent → Answer → Type 0
 HasMembers extent (answers.Log reply lie) = All (λ t. InHall (hall_list extent.width extent.depth) t.number) lie
 HasMembers extent _ = Unit {0}
 
+-- this holds for all answers of an outcome
 abbrev pub AllHaveMembers : Extent → Outcome → Type 0
 AllHaveMembers extent outcome = All (All (HasMembers extent)) outcome.transcripts.items

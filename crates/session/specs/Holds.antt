@@ -31,6 +31,7 @@ pub record IsStill (v w : PassView Step) : Type 0 where
   pub label : w.label ≡ v.label
   pub frame : w.frame ≡ v.frame
 
+-- the pass after its hold: it has seen this history and the step, which it added, and is without the turn
 abbrev pub with_step : PassView Step → List Step → Step → PassView Step
 with_step v history step = record v { seen = history ++ step ∷ []; own = v.own ++ step ∷ []; turn = false; taken = [] }
 

@@ -4,7 +4,7 @@ use Rattle.definitions.specs.Words.{Extent, IsWord}
 use Rattle.definitions.specs.Signature.{signature}
 use Rattle.definitions.specs.Logarithm.{logarithm}
 use Rattle.definitions.specs.Rows.{moves_of}
-use Rattle.hall_set.specs.Hall.{hall_list, expansion}
+use Rattle.definitions.specs.Hall.{hall_list, expansion}
 use Rattle.lie_bracket.specs.declared.term.Term.{Term}
 use Rattle.lie_bracket.specs.Brackets.{expanded}
 use Rattle.script_reader.specs.declared.fault.ScriptFault.{ScriptFault}
@@ -28,6 +28,7 @@ abbrev pub AreExpanded : ℕ → Extent → List ℕ → Run → Type 0
 AreExpanded capacity extent [] run = Unit {0}
 AreExpanded capacity extent (session ∷ order) run = IsExpanded extent run.state (next_request extent session run) × AreExpanded capacity extent order (stepped capacity extent session run)
 
+-- this holds along the order, from the script's start
 abbrev pub ExpandIn : ℕ → ScriptValue → List ℕ → Type 0
 ExpandIn capacity script order = AreExpanded capacity script.extent order (opening_run script)
 

@@ -13,6 +13,7 @@ pub record Moment : Type 0 where
   pub state : State
   pub request : Request
 
+-- the moment, where it is the session's own
 abbrev pub own_moment : Bool → Moment → List Moment
 own_moment mine moment = if mine then moment ∷ [] else []
 

@@ -7,7 +7,7 @@ use Rattle.definitions.specs.Logarithm.{logarithm}
 use Rattle.definitions.specs.Rows.{RowValue, moves_of}
 use Rattle.versions.specs.declared.edit.EditReply.{EditReply}
 use Rattle.versions.specs.Versions.{edit_reply}
-use Rattle.hall_set.specs.Hall.{hall_list}
+use Rattle.definitions.specs.Hall.{hall_list}
 use Rattle.lie_bracket.specs.declared.term.Term.{Term}
 use Rattle.lie_bracket.specs.Tables.{heavy_pair}
 use Rattle.dynkin_map.specs.Coordinates.{heavy_level, lie_bounds, coordinates}
@@ -30,13 +30,16 @@ allowed_by (Some pair) level factors = Pair pair.0 pair.1
 allowed_by None (Some level) factors = Level level
 allowed_by None None factors = Fits factors
 
+-- what a query may be answered with: factors 1 for a signature, the bounds of the coordinates for a logarithm
 abbrev pub allowed_for : Extent → Kind → Allowed
 allowed_for extent kinds.Sig = Fits (replicate extent.depth 1)
 allowed_for extent kinds.Log = allowed_by (heavy_pair extent.depth (hall_list extent.width extent.depth)) (heavy_level extent) (lie_bounds extent)
 
+-- the query that a command asks the book
 abbrev pub query_for : Extent → Ask → Query
 query_for extent ask = record { kind = ask.kind; from = ask.from; to = ask.to; r = ask.r; version = ask.version; allowed = allowed_for extent ask.kind }
 
+-- the request of a command to the book
 abbrev pub request_for : Extent → ℕ → Command → Request
 request_for extent session (commands.Edit edit) = Editing session edit
 request_for extent session (commands.Ask ask) = Looking session (query_for extent ask)
@@ -49,10 +52,12 @@ pub data Due : Type 0 where
   Logged : LookReply → List Term → Due
   Refused : LookReply → Due
 
+-- the value of rows: their signature, or the Hall coordinates of its logarithm
 abbrev pub valued : Extent → Kind → LookReply → List RowValue → Due
 valued extent kinds.Sig reply rows = Valued reply (signature (moves_of rows))
 valued extent kinds.Log reply rows = Logged reply (coordinates extent (logarithm (signature (moves_of rows))))
 
+-- the refusal where there is one
 abbrev pub unless : Option LookReply → Due → Due
 unless None due = due
 unless (Some reply) due = Refused reply
@@ -74,6 +79,7 @@ pub record Run : Type 0 where
   pub left : List (List Command)
   pub transcripts : List (List Due)
 
+-- no step taken: all commands are left, and there are no answers
 abbrev pub opening_run : ScriptValue → Run
 opening_run script = record {
   state = opening (length script.sessions);
@@ -96,6 +102,7 @@ abbrev pub next_request : Extent → ℕ → Run → Option Request
 next_request extent zero run = None
 next_request extent (suc n) run = next_of extent (suc n) (pending_of (suc n) run.state.pending) (of_session (suc n) run.left)
 
+-- the session has anything to do
 abbrev pub has_next : Extent → Run → ℕ → Bool
 has_next extent run session = is_some (next_request extent session run)
 
@@ -104,6 +111,7 @@ abbrev pub left_after : ℕ → Request → List (List Command) → List (List C
 left_after session (Settling s) left = left
 left_after session _ left = slice_set left (session - 1) (drop 1 (of_session session left))
 
+-- the run after a request of this session: its answer stands after the others
 abbrev pub with_request : ℕ → Extent → ℕ → Request → Run → Run
 with_request capacity extent session request run = record {
   state = after capacity run.state request;
@@ -111,6 +119,7 @@ with_request capacity extent session request run = record {
   transcripts = slice_set run.transcripts (session - 1) (of_session session run.transcripts ++ answers_to extent run.state request);
 }
 
+-- the run after what the session does next; where it has nothing to do, nothing changes
 abbrev pub with_next : ℕ → Extent → ℕ → Option Request → Run → Run
 with_next capacity extent session None run = run
 with_next capacity extent session (Some request) run = with_request capacity extent session request run
@@ -120,6 +129,7 @@ abbrev pub stepped : ℕ → Extent → ℕ → Run → Run
 stepped capacity extent session run = with_next capacity extent session (next_request extent session run) run
 
 -- ---- orders
+-- the run after the steps of these sessions, one after another
 abbrev pub run_in : ℕ → Extent → List ℕ → Run → Run
 run_in capacity extent order run = fold (λ r session. stepped capacity extent session r) run order
 
@@ -133,6 +143,7 @@ illegal_from capacity place extent [] run = if has_any extent run then Some plac
 illegal_from capacity place extent (session ∷ order) run =
     if has_next extent run session then illegal_from capacity (suc place) extent order (stepped capacity extent session run) else Some place
 
+-- the first place, from 1, at which an order of the script is illegal; None where it is legal
 abbrev pub illegal_place : ℕ → ScriptValue → List ℕ → Option ℕ
 illegal_place capacity script order = illegal_from capacity 1 script.extent order (opening_run script)
 
@@ -140,6 +151,7 @@ illegal_place capacity script order = illegal_from capacity 1 script.extent orde
 abbrev pub turns_after : ℕ → ℕ → List ℕ
 turns_after last sessions = drop last (up_to sessions) ++ take last (up_to sessions)
 
+-- the next session with anything to do, from the one after the last on
 abbrev pub next_turn : Extent → ℕ → Run → Option ℕ
 next_turn extent last run = find (has_next extent run) (turns_after last (length run.left))
 
@@ -156,15 +168,18 @@ turns_from capacity (suc steps) extent last run =
 abbrev pub most_steps : ScriptValue → ℕ
 most_steps script = 2 * sum_by length script.sessions
 
+-- the sessions of all steps, where each takes one step in turn
 abbrev pub round_order : ℕ → ScriptValue → List ℕ
 round_order capacity script = turns_from capacity (most_steps script) script.extent 0 (opening_run script)
 
 -- ---- outcomes
+-- the answers to each session's commands, the sessions of the steps, and the last version
 pub record DueOutcome : Type 0 where
   pub transcripts : List (List Due)
   pub order : List ℕ
   pub versions : ℕ
 
+-- what is due to a script in an order
 abbrev pub due_outcome : ℕ → ScriptValue → List ℕ → DueOutcome
 due_outcome capacity script order =
     let run : Run = run_in capacity script.extent order (opening_run script) in

@@ -46,6 +46,7 @@ pub record IsAt (script : ScriptValue) (run : TheRun) (session : ℕ) : Type 0 w
   pub solved : IsSolvedFor (log_of run.book) (pending_of session (state_of run.book).pending) (slice_index_or run.solved.items (session - 1) None)
   pub steps : count_of session run.book.history + begun (pending_of session (state_of run.book).pending) ≤ 2 * slice_index_or run.taken.items (session - 1) 0
 
+-- the book, the solutions, the counts and the answers of a run fit together, session by session
 pub record IsRun (script : ScriptValue) (run : TheRun) : Type 0 where
   pub extent : run.book.extent ≡ script.extent
   pub sessions : run.book.sessions ≡ length script.sessions
@@ -59,6 +60,7 @@ pub record IsRun (script : ScriptValue) (run : TheRun) : Type 0 where
   pub each : (session : ℕ) → IsSession (length script.sessions) session → IsAt script run session
 
 -- ---- step units
+-- no rows where the look is refused
 abbrev pub exps_unless : Option LookReply → ℕ → ℕ
 exps_unless None exps = exps
 exps_unless (Some reply) exps = 0
@@ -72,6 +74,7 @@ abbrev pub units_of : State → Option Request → ℕ
 units_of state (Some (Looking session q)) = look_visits state q + exps_for state q
 units_of state _ = 0
 
+-- the units of the steps of an order
 abbrev pub units_in : ℕ → Extent → List ℕ → Run → ℕ
 units_in capacity extent [] run = 0
 units_in capacity extent (session ∷ order) run = units_of run.state (next_request extent session run) + units_in capacity extent order (stepped capacity extent session run)

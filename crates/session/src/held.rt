@@ -22,12 +22,12 @@ use words::{Memory, Steps};
 
 /// A book that sessions hold one after another. An entry is a step, its label the session.
 #[derive(Drop)]
-pub struct Held {
+pub struct BookInTurn {
     pub(crate) book: Book,
     pub ghost few: { length book.history < 2 ^ 62 },
 }
 
-impl Kept for Held {
+impl Kept for BookInTurn {
     ghost use Rattle.book.specs.Play.{session_of};
     ghost use Rattle.session.specs.Holds.{frame_of};
 
@@ -42,27 +42,31 @@ impl Kept for Held {
     ghost few = { λ held. held.few };
 }
 
-impl Held {
+impl BookInTurn {
     /// The book, to be handed round.
-    pub fn of(book: Book) -> Held
+    pub fn of(book: Book) -> BookInTurn
         ensures { result.book ≡ book }
     {
-        Held { book }
+        BookInTurn { book }
     }
 }
 
 /// Waits for the turn and takes the book, unless it is spent.
-fn take<R: Wait>(rt: &R, turns: &Turnstile<Held>, pass: &mut Pass<Held>) -> Result<Book, Memory>
+fn take<R: Wait>(
+    rt: &R,
+    turns: &Turnstile<BookInTurn>,
+    pass: &mut Pass<BookInTurn>,
+) -> Result<Book, Memory>
     requires idle { IsIdle turns.now pass.old }
     requires steps { CanStep (view pass.old) }
     ensures still { IsStill (view pass.old) (view pass.new) }
     ensures ok { IfOk result (λ book. IsPassOf turns.now pass.new × IsTaken (view pass.old) book.history × (book ≡ book_of (view pass.old).frame book.history) × (view pass.new ≡ record (view pass.old) { turn = true; taken = book.history })) }
     ensures err { OnErr result (IsIdle turns.now pass.new) }
 {
-    let Held { book } = turns.take(rt, pass);
+    let BookInTurn { book } = turns.take(rt, pass);
     let _version = book.version();
     if book.spent() {
-        turns.give_back(pass, Held::of(book));
+        turns.give_back(pass, BookInTurn::of(book));
         return Err(Memory);
     }
     Ok(book)
@@ -72,8 +76,8 @@ fn take<R: Wait>(rt: &R, turns: &Turnstile<Held>, pass: &mut Pass<Held>) -> Resu
 pub fn edit<R: Wait>(
     rt: &R,
     alloc: Global,
-    turns: &Turnstile<Held>,
-    pass: &mut Pass<Held>,
+    turns: &Turnstile<BookInTurn>,
+    pass: &mut Pass<BookInTurn>,
     e: &Edit,
 ) -> Result<EditReply, Memory>
     requires idle { IsIdle turns.now pass.old }
@@ -87,22 +91,22 @@ pub fn edit<R: Wait>(
     let mut book = take(rt, turns, pass)?;
     match book.edit(alloc, pass.label(), e) {
         Ok(reply) => {
-            turns.give(pass, Held::of(book));
+            turns.give(pass, BookInTurn::of(book));
             Ok(reply)
         }
         Err(memory) => {
-            turns.give_back(pass, Held::of(book));
+            turns.give_back(pass, BookInTurn::of(book));
             Err(memory)
         }
     }
 }
 
-/// Looks at a version. Takes one step unit for each visited node.
+/// Looks at a version. Takes one unit for each visited node.
 pub fn look<R: Wait, L: Ledger>(
     rt: &R,
     alloc: Global,
-    turns: &Turnstile<Held>,
-    pass: &mut Pass<Held>,
+    turns: &Turnstile<BookInTurn>,
+    pass: &mut Pass<BookInTurn>,
     q: Query,
     steps: &mut Steps<L>,
 ) -> Result<Looked, Memory>
@@ -118,11 +122,11 @@ pub fn look<R: Wait, L: Ledger>(
     let mut book = take(rt, turns, pass)?;
     match look_at(alloc, &mut book, pass.label(), q, steps) {
         Ok(looked) => {
-            turns.give(pass, Held::of(book));
+            turns.give(pass, BookInTurn::of(book));
             Ok(looked)
         }
         Err(memory) => {
-            turns.give_back(pass, Held::of(book));
+            turns.give_back(pass, BookInTurn::of(book));
             Err(memory)
         }
     }
@@ -131,8 +135,8 @@ pub fn look<R: Wait, L: Ledger>(
 /// Settles the pending look. After want of memory the book is spent.
 pub fn settle<R: Wait>(
     rt: &R,
-    turns: &Turnstile<Held>,
-    pass: &mut Pass<Held>,
+    turns: &Turnstile<BookInTurn>,
+    pass: &mut Pass<BookInTurn>,
     solved: &Solved,
 ) -> Result<(), Memory>
     requires idle { IsIdle turns.now pass.old }
@@ -145,11 +149,11 @@ pub fn settle<R: Wait>(
     let mut book = take(rt, turns, pass)?;
     match book.settle(pass.label(), solved) {
         Ok(_kept) => {
-            turns.give(pass, Held::of(book));
+            turns.give(pass, BookInTurn::of(book));
             Ok(())
         }
         Err(memory) => {
-            turns.give_back(pass, Held::of(book));
+            turns.give_back(pass, BookInTurn::of(book));
             Err(memory)
         }
     }

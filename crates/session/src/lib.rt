@@ -2,6 +2,7 @@
 #![tactic(auto)]
 
 pub mod answer;
+pub mod basis;
 pub mod held;
 pub mod laws;
 pub mod look;

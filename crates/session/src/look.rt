@@ -17,14 +17,14 @@ ghost use Rattle.session.specs.Runs.{IsSolvedFor, IsLastLook, exps_for};
 ghost use Rattle.session.specs.Looks.{IsLooked, IsLookedFor};
 
 use crate::answer::Answer;
+use crate::basis::Basis;
 use crate::value::answer_of;
-use basis_cell::BasisCell;
 use book::{Book, Look, LookReply, Query, Step};
 use script_reader::{Ask, Kind};
 use solve::{Gate, Solved, Work, solve};
 use std::alloc::Global;
 use std::sync::ledger::Ledger;
-use words::{Memory, Shape, Steps};
+use words::{Memory, Steps};
 
 /// What a look gave: the work of its answer or why there is none, its reply, and whether it is to be settled.
 #[derive(Drop)]
@@ -74,8 +74,7 @@ pub fn look_at<L: Ledger>(
 /// The answer to a look that gave a work, and the work's solution.
 fn answer_work<G: Gate, L: Ledger>(
     alloc: Global,
-    cell: &BasisCell,
-    shape: Shape,
+    basis: &Basis,
     session: u32,
     kind: Kind,
     reply: LookReply,
@@ -83,44 +82,42 @@ fn answer_work<G: Gate, L: Ledger>(
     gate: &G,
     steps: &mut Steps<L>,
 ) -> Result<(Answer, Solved), Memory>
-    requires extent { work.now.extent ≡ shape }
-    requires allowed { (rows : List RowValue) × PlansStand work.now.plans (moves_of rows) × IsAllowed shape kind (weight (moves_of rows)) }
-    ensures shows { (rows : List RowValue) → PlansStand work.now.plans (moves_of rows) → IfOk result (λ r. Shows shape r.0 (valued shape kind reply rows)) }
-    ensures members { IfOk result (λ r. HasMembers shape r.0) }
-    ensures nodes { IfOk result (λ r. AreSolved shape (all_missed work.now.plans) r.1.nodes.items) }
+    requires extent { work.now.extent ≡ basis.now }
+    requires allowed { (rows : List RowValue) × PlansStand work.now.plans (moves_of rows) × IsAllowed basis.now kind (weight (moves_of rows)) }
+    ensures shows { (rows : List RowValue) → PlansStand work.now.plans (moves_of rows) → IfOk result (λ r. Shows basis.now r.0 (valued basis.now kind reply rows)) }
+    ensures members { IfOk result (λ r. HasMembers basis.now r.0) }
+    ensures nodes { IfOk result (λ r. AreSolved basis.now (all_missed work.now.plans) r.1.nodes.items) }
     ensures ticks { OnOk result (steps.new ≡ steps.old + sum_by exps_of work.now.plans) }
     ensures at_most { (steps.old ≤ steps.new) × (steps.new ≤ steps.old + sum_by exps_of work.now.plans) }
 {
-    let solved = solve(alloc, work, session, gate, steps)?;
-    let answer = answer_of(alloc, cell, shape, kind, reply, &solved.sig)?;
+    let solved = solve(alloc, work, basis.hall(), session, gate, steps)?;
+    let answer = answer_of(alloc, basis, kind, reply, &solved.sig)?;
     Ok((answer, solved))
 }
 
 /// The answer to a look, and the solution where it is to be settled.
 pub fn answer_look<G: Gate, L: Ledger>(
     alloc: Global,
-    cell: &BasisCell,
-    shape: Shape,
+    basis: &Basis,
     session: u32,
     ask: &Ask,
     looked: &Looked,
     gate: &G,
     steps: &mut Steps<L>,
 ) -> Result<(Answer, Option<Solved>), Memory>
-    requires looked { (old : BookValue) × IsLookedFor shape session ask.now old looked.now }
-    ensures shows { (old : BookValue) → IsLookedFor shape session ask.now old looked.now → IfOk result (λ r. Shows shape r.0 (due_look shape (state_of old) (asked_query shape ask.now))) }
-    ensures members { IfOk result (λ r. HasMembers shape r.0) }
-    ensures solved { (old : BookValue) → IsLookedFor shape session ask.now old looked.now → IfOk result (λ r. let new = with_request (Looking session (asked_query shape ask.now)) old in IsSolvedFor (log_of new) (pending_of session (state_of new).pending) r.1) }
-    ensures pending { (old : BookValue) → IsLookedFor shape session ask.now old looked.now → IfOk result (λ r. is_some r.1 ≡ is_some (pending_of session (state_of (with_request (Looking session (asked_query shape ask.now)) old)).pending)) }
-    ensures ticks { (old : BookValue) → IsLookedFor shape session ask.now old looked.now → OnOk result (steps.new ≡ steps.old + exps_for (state_of old) (asked_query shape ask.now)) }
-    ensures at_most { (old : BookValue) → IsLookedFor shape session ask.now old looked.now → (steps.old ≤ steps.new) × (steps.new ≤ steps.old + exps_for (state_of old) (asked_query shape ask.now)) }
+    requires looked { (old : BookValue) × IsLookedFor basis.now session ask.now old looked.now }
+    ensures shows { (old : BookValue) → IsLookedFor basis.now session ask.now old looked.now → IfOk result (λ r. Shows basis.now r.0 (due_look basis.now (state_of old) (asked_query basis.now ask.now))) }
+    ensures members { IfOk result (λ r. HasMembers basis.now r.0) }
+    ensures solved { (old : BookValue) → IsLookedFor basis.now session ask.now old looked.now → IfOk result (λ r. let new = with_request (Looking session (asked_query basis.now ask.now)) old in IsSolvedFor (log_of new) (pending_of session (state_of new).pending) r.1) }
+    ensures pending { (old : BookValue) → IsLookedFor basis.now session ask.now old looked.now → IfOk result (λ r. is_some r.1 ≡ is_some (pending_of session (state_of (with_request (Looking session (asked_query basis.now ask.now)) old)).pending)) }
+    ensures ticks { (old : BookValue) → IsLookedFor basis.now session ask.now old looked.now → OnOk result (steps.new ≡ steps.old + exps_for (state_of old) (asked_query basis.now ask.now)) }
+    ensures at_most { (old : BookValue) → IsLookedFor basis.now session ask.now old looked.now → (steps.old ≤ steps.new) × (steps.new ≤ steps.old + exps_for (state_of old) (asked_query basis.now ask.now)) }
 {
     match &looked.look {
         Look::Work(work) => {
             let (answer, solved) = answer_work(
                 alloc,
-                cell,
-                shape,
+                basis,
                 session,
                 ask.kind,
                 looked.reply,

@@ -7,13 +7,13 @@ ghost use Rattle.session.specs.Answers.{IsOutcome, AllHaveMembers};
 ghost use Rattle.session.specs.Runs.{IsRun, IsTold, order_of, run_of, units_in};
 
 use crate::answer::{Outcome, Transcript};
+use crate::basis::Basis;
 use crate::run::{Run, has_next, opening, step};
-use basis_cell::BasisCell;
 use book::Book;
 use script_reader::Script;
 use std::alloc::Global;
 use std::sync::ledger::Ledger;
-use words::{Memory, Steps};
+use words::{Capacity, Memory, Steps};
 
 /// Why there is no outcome of an order.
 #[derive(Debug, Clone, Copy, PartialEq, Eq, Drop)]
@@ -101,29 +101,27 @@ fn next_turn(run: &Run, script: &Script, last: u32) -> Option<u32>
 }
 
 /// The outcome of a script whose sessions take their steps in this order, refused exactly as `ReplayFault` says. The cache keeps so many
-/// nodes at most, from 1 to 16,384. Takes one step unit for each visited node and each row that is exponentiated.
+/// nodes at most. Takes one unit for each visited node and each row that is exponentiated.
 pub fn replay<L: Ledger>(
     alloc: Global,
     script: &Script,
-    capacity: u32,
+    capacity: Capacity,
     order: &[u32],
     steps: &mut Steps<L>,
 ) -> Result<Outcome, ReplayFault>
-    requires some { 1 ≤ capacity }
-    requires within { capacity ≤ 16384 }
     ensures legal { OnOk result (illegal_place capacity script.now order.now ≡ None) }
     ensures outcome { IfOk result (λ outcome. IsOutcome script.now.extent outcome (due_outcome capacity script.now order.now)) }
     ensures members { IfOk result (AllHaveMembers script.now.extent) }
     ensures illegal { (place : ℕ) → result ≡ Err (ReplayFault.Order place) → illegal_place capacity script.now order.now ≡ Some place }
     ensures ticks { OnOk result (steps.new ≡ steps.old + units_in capacity script.now.extent order.now (opening_run script.now)) }
 {
-    let cell = BasisCell::new(alloc);
+    let basis = Basis::build(alloc, script.shape())?;
     let mut run = opening(alloc, script, capacity)?;
     for (before, session) in order.iter().enumerate() {
         if !has_next(&run, script, *session) {
             return Err(ReplayFault::Order(before as u64 + 1));
         }
-        step(alloc, &cell, script, &mut run, *session, steps)?;
+        step(alloc, &basis, script, &mut run, *session, steps)?;
     }
     if next_turn(&run, script, 0).is_some() {
         return Err(ReplayFault::Order(order.len() as u64 + 1));
@@ -142,28 +140,26 @@ fn most_steps(script: &Script) -> u64
     2 * commands
 }
 
-/// The outcome of a script whose sessions take one step each in turn. The cache keeps so many nodes at most, from 1 to 16,384. Takes one
-/// step unit for each visited node and each row that is exponentiated.
+/// The outcome of a script whose sessions take one step each in turn. The cache keeps so many nodes at most. Takes one
+/// unit for each visited node and each row that is exponentiated.
 pub fn replay_round<L: Ledger>(
     alloc: Global,
     script: &Script,
-    capacity: u32,
+    capacity: Capacity,
     steps: &mut Steps<L>,
 ) -> Result<Outcome, Memory>
-    requires some { 1 ≤ capacity }
-    requires within { capacity ≤ 16384 }
     ensures outcome { IfOk result (λ outcome. IsOutcome script.now.extent outcome (due_outcome capacity script.now (round_order capacity script.now))) }
     ensures members { IfOk result (AllHaveMembers script.now.extent) }
     ensures ticks { OnOk result (steps.new ≡ steps.old + units_in capacity script.now.extent (round_order capacity script.now) (opening_run script.now)) }
 {
-    let cell = BasisCell::new(alloc);
+    let basis = Basis::build(alloc, script.shape())?;
     let mut run = opening(alloc, script, capacity)?;
     let mut last = 0;
     for _step in 0..most_steps(script) {
         let Some(session) = next_turn(&run, script, last) else {
             break;
         };
-        step(alloc, &cell, script, &mut run, session, steps)?;
+        step(alloc, &basis, script, &mut run, session, steps)?;
         last = session;
     }
     outcome_of_run(alloc, script, run)

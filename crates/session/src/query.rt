@@ -4,21 +4,21 @@ ghost use Rattle.script_reader.specs.Script.{IsAsk};
 ghost use Rattle.book.specs.Looks.{IsQuery, AllowsSignatures};
 ghost use Rattle.session.specs.Play.{allowed_for as allowed_by_shape, query_for as asked_query};
 
-use basis_cell::BasisCell;
+use crate::basis::Basis;
 use book::{Allowed, Query};
 use lie_bracket::TableFault;
 use script_reader::{Ask, Kind};
 use std::alloc::Global;
-use words::{Bound, Memory, Shape};
+use words::{Bound, Memory};
 
 /// Which rows have a value of this kind.
-fn allowed_for(alloc: Global, cell: &BasisCell, shape: Shape, kind: Kind) -> Result<Allowed, Memory>
-    ensures value { IfOk result (λ allowed. allowed ≡ allowed_by_shape shape kind) }
-    ensures signatures { IfOk result (AllowsSignatures shape) }
+fn allowed_for(alloc: Global, basis: &Basis, kind: Kind) -> Result<Allowed, Memory>
+    ensures value { IfOk result (λ allowed. allowed ≡ allowed_by_shape basis.now kind) }
+    ensures signatures { IfOk result (AllowsSignatures basis.now) }
 {
     match kind {
-        Kind::Sig => Ok(Allowed::Fits(Bound::flat(shape))),
-        Kind::Log => match cell.tables(alloc, shape) {
+        Kind::Sig => Ok(Allowed::Fits(Bound::flat(basis.hall().shape()))),
+        Kind::Log => match basis.tables(alloc) {
             Ok(held) => Ok(Allowed::Fits(held.get().dynkin().bound())),
             Err(TableFault::Pair(a, b)) => Ok(Allowed::Pair(a, b)),
             Err(TableFault::Level(k)) => Ok(Allowed::Level(k)),
@@ -28,11 +28,11 @@ fn allowed_for(alloc: Global, cell: &BasisCell, shape: Shape, kind: Kind) -> Res
 }
 
 /// The query of a command.
-pub fn query_for(alloc: Global, cell: &BasisCell, shape: Shape, ask: &Ask) -> Result<Query, Memory>
+pub fn query_for(alloc: Global, basis: &Basis, ask: &Ask) -> Result<Query, Memory>
     requires { IsAsk ask.now }
-    ensures value { IfOk result (λ q. q ≡ asked_query shape ask.now) }
+    ensures value { IfOk result (λ q. q ≡ asked_query basis.now ask.now) }
     ensures query { IfOk result IsQuery }
-    ensures signatures { IfOk result (λ q. AllowsSignatures shape q.allowed) }
+    ensures signatures { IfOk result (λ q. AllowsSignatures basis.now q.allowed) }
 {
     Ok(Query {
         kind: ask.kind,
@@ -40,6 +40,6 @@ pub fn query_for(alloc: Global, cell: &BasisCell, shape: Shape, ask: &Ask) -> Re
         to: ask.to,
         r: ask.r,
         version: ask.version,
-        allowed: allowed_for(alloc, cell, shape, ask.kind)?,
+        allowed: allowed_for(alloc, basis, ask.kind)?,
     })
 }

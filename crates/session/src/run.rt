@@ -17,16 +17,16 @@ ghost use Rattle.session.specs.Answers.{Shows, HasMembers, IsAllowed};
 ghost use Rattle.session.specs.Runs.{IsRun, IsAfter, IsSolvedFor, HasPlaces, IsLastLook, IsPendingSolved, order_of, run_of, units_of};
 
 use crate::answer::{Answer, Transcript};
+use crate::basis::Basis;
 use crate::look::{answer_look, look_at};
 use crate::query::query_for;
-use basis_cell::BasisCell;
 use book::Book;
 use script_reader::{Ask, Command, Script};
 use solve::{Solved, Through};
 use std::alloc::Global;
 use std::sync::ledger::Ledger;
 use versions::Edit;
-use words::{Memory, Shape, Steps};
+use words::{Capacity, Memory, Steps};
 
 /// The book, and for each session how many of its commands were taken, the solution of its pending look, and its answers.
 #[derive(Drop)]
@@ -38,9 +38,7 @@ pub struct Run {
 }
 
 /// A run of a script before its first step.
-pub fn opening(alloc: Global, script: &Script, capacity: u32) -> Result<Run, Memory>
-    requires some { 1 ≤ capacity }
-    requires within { capacity ≤ 16384 }
+pub fn opening(alloc: Global, script: &Script, capacity: Capacity) -> Result<Run, Memory>
     ensures run { IfOk result (IsRun script.now) }
     ensures capacity { IfOk result (λ run. run.book.capacity ≡ capacity) }
     ensures order { IfOk result (λ run. order_of run.book ≡ []) }
@@ -111,51 +109,49 @@ fn edit_step(alloc: Global, run: &mut Run, session: u32, edit: &Edit) -> Result<
 /// Looks at a version. Gives the answer, and the solution where the look is pending.
 fn answer_ask<L: Ledger>(
     alloc: Global,
-    cell: &BasisCell,
-    shape: Shape,
+    basis: &Basis,
     book: &mut Book,
     session: u32,
     ask: &Ask,
     steps: &mut Steps<L>,
 ) -> Result<(Answer, Option<Solved>), Memory>
-    requires shape { shape ≡ book.old.extent }
+    requires basis { basis.now ≡ book.old.extent }
     requires ready { IsReady book.old session }
     requires free { IsFree book.old session }
     requires ask { IsAsk ask.now }
-    ensures book { OnOk result (book.new ≡ with_request (Looking session (asked_query shape ask.now)) book.old) }
-    ensures shows { IfOk result (λ r. Shows shape r.0 (looked shape (state_of book.old) (asked_query shape ask.now))) }
-    ensures members { IfOk result (λ r. HasMembers shape r.0) }
+    ensures book { OnOk result (book.new ≡ with_request (Looking session (asked_query basis.now ask.now)) book.old) }
+    ensures shows { IfOk result (λ r. Shows basis.now r.0 (looked basis.now (state_of book.old) (asked_query basis.now ask.now))) }
+    ensures members { IfOk result (λ r. HasMembers basis.now r.0) }
     ensures solved { IfOk result (λ r. IsSolvedFor (log_of book.new) (pending_of session (state_of book.new).pending) r.1) }
-    ensures ticks { OnOk result (steps.new ≡ steps.old + units_of (state_of book.old) (Some (Looking session (asked_query shape ask.now)))) }
-    ensures at_most { (steps.old ≤ steps.new) × (steps.new ≤ steps.old + units_of (state_of book.old) (Some (Looking session (asked_query shape ask.now)))) }
+    ensures ticks { OnOk result (steps.new ≡ steps.old + units_of (state_of book.old) (Some (Looking session (asked_query basis.now ask.now)))) }
+    ensures at_most { (steps.old ≤ steps.new) × (steps.new ≤ steps.old + units_of (state_of book.old) (Some (Looking session (asked_query basis.now ask.now)))) }
 {
-    let q = query_for(alloc, cell, shape, ask)?;
+    let q = query_for(alloc, basis, ask)?;
     let looked = look_at(alloc, book, session, q, steps)?;
-    answer_look(alloc, cell, shape, session, ask, &looked, &Through, steps)
+    answer_look(alloc, basis, session, ask, &looked, &Through, steps)
 }
 
 /// Looks at a version, and answers with the value of its rows.
 fn look_step<L: Ledger>(
     alloc: Global,
-    cell: &BasisCell,
-    shape: Shape,
+    basis: &Basis,
     run: &mut Run,
     session: u32,
     ask: &Ask,
     steps: &mut Steps<L>,
 ) -> Result<(), Memory>
-    requires shape { shape ≡ run.old.book.extent }
+    requires basis { basis.now ≡ run.old.book.extent }
     requires ready { IsReady run.old.book session }
     requires free { IsFree run.old.book session }
     requires places { HasPlaces session run.old }
     requires ask { IsAsk ask.now }
     requires few { slice_index_or run.old.taken.items (session - 1) 0 < 2 ^ 32 }
-    ensures after { OnOk result (IsAfter shape session (Looking session (asked_query shape ask.now)) run.old run.new) }
-    ensures ticks { OnOk result (steps.new ≡ steps.old + units_of (state_of run.old.book) (Some (Looking session (asked_query shape ask.now)))) }
-    ensures at_most { (steps.old ≤ steps.new) × (steps.new ≤ steps.old + units_of (state_of run.old.book) (Some (Looking session (asked_query shape ask.now)))) }
+    ensures after { OnOk result (IsAfter basis.now session (Looking session (asked_query basis.now ask.now)) run.old run.new) }
+    ensures ticks { OnOk result (steps.new ≡ steps.old + units_of (state_of run.old.book) (Some (Looking session (asked_query basis.now ask.now)))) }
+    ensures at_most { (steps.old ≤ steps.new) × (steps.new ≤ steps.old + units_of (state_of run.old.book) (Some (Looking session (asked_query basis.now ask.now)))) }
 {
     let at = session as usize - 1;
-    let (answer, solved) = answer_ask(alloc, cell, shape, &mut run.book, session, ask, steps)?;
+    let (answer, solved) = answer_ask(alloc, basis, &mut run.book, session, ask, steps)?;
     run.solved[at] = solved;
     run.transcripts[at].push(answer)?;
     run.taken[at] += 1;
@@ -165,12 +161,13 @@ fn look_step<L: Ledger>(
 /// The next step of a session that has one: its pending look is settled, or else its next command is done.
 pub fn step<L: Ledger>(
     alloc: Global,
-    cell: &BasisCell,
+    basis: &Basis,
     script: &Script,
     run: &mut Run,
     session: u32,
     steps: &mut Steps<L>,
 ) -> Result<(), Memory>
+    requires basis { basis.now ≡ script.now.extent }
     requires run { IsRun script.now run.old }
     requires next { has_request script.now.extent (run_of script.now run.old.book) session ≡ true }
     ensures run { OnOk result (IsRun script.now run.new) }
@@ -186,6 +183,6 @@ pub fn step<L: Ledger>(
     }
     match &sessions[at].list()[run.taken[at]] {
         Command::Edit(edit) => edit_step(alloc, run, session, edit),
-        Command::Ask(ask) => look_step(alloc, cell, script.shape(), run, session, ask, steps),
+        Command::Ask(ask) => look_step(alloc, basis, run, session, ask, steps),
     }
 }

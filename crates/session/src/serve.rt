@@ -15,11 +15,11 @@ ghost use Rattle.session.specs.Serving.{IsServing, IsNextCommand, IsOpening};
 ghost use Rattle.session.specs.Turns.{IsIdle};
 
 use crate::answer::{Answer, Transcript};
+use crate::basis::Basis;
 use crate::held;
-use crate::held::Held;
+use crate::held::BookInTurn;
 use crate::look::answer_look;
 use crate::query::query_for;
-use basis_cell::BasisCell;
 use script_reader::{Ask, Command, Script};
 use solve::Gate;
 use std::alloc::Global;
@@ -33,8 +33,8 @@ use words::{Memory, Shape, Steps};
 fn serve_edit<R: Wait>(
     rt: &R,
     alloc: Global,
-    turns: &Turnstile<Held>,
-    pass: &mut Pass<Held>,
+    turns: &Turnstile<BookInTurn>,
+    pass: &mut Pass<BookInTurn>,
     script: &Script,
     edit: &Edit,
 ) -> Result<Answer, Memory>
@@ -55,15 +55,16 @@ fn serve_edit<R: Wait>(
 fn serve_ask<R: Wait, G: Gate, L: Ledger>(
     rt: &R,
     alloc: Global,
-    turns: &Turnstile<Held>,
-    pass: &mut Pass<Held>,
-    cell: &BasisCell,
+    turns: &Turnstile<BookInTurn>,
+    pass: &mut Pass<BookInTurn>,
+    basis: &Basis,
     script: &Script,
     ask: &Ask,
     gate: &G,
     steps: &mut Steps<L>,
 ) -> Result<Answer, Memory>
     requires idle { IsIdle turns.now pass.old }
+    requires basis { basis.now ≡ script.now.extent }
     requires served { (taken : ℕ) × (answers : List TheAnswer) × IsServing script.now (view pass.old) taken answers × IsNextCommand script.now (view pass.old).label taken (AskCommand ask.now) }
     requires ask { IsAsk ask.now }
     ensures idle { IsIdle turns.now pass.new }
@@ -72,11 +73,11 @@ fn serve_ask<R: Wait, G: Gate, L: Ledger>(
         IfOk result (λ answer. IsServing script.now (view pass.new) (taken + 1) (answers ++ answer ∷ [])) }
     ensures ticks { OnOk result (steps.new + units_by (moments_of (seen_book (view pass.old)) (view pass.old).label) ≡ steps.old + units_by (moments_of (seen_book (view pass.new)) (view pass.old).label)) }
 {
-    let shape = script.shape();
+    let _shape = script.shape();
     let session = pass.label();
-    let q = query_for(alloc, cell, shape, ask)?;
+    let q = query_for(alloc, basis, ask)?;
     let looked = held::look(rt, alloc, turns, pass, q, steps)?;
-    let (answer, solved) = answer_look(alloc, cell, shape, session, ask, &looked, gate, steps)?;
+    let (answer, solved) = answer_look(alloc, basis, session, ask, &looked, gate, steps)?;
     if let Some(solved) = solved {
         held::settle(rt, turns, pass, &solved)?;
     }
@@ -87,15 +88,16 @@ fn serve_ask<R: Wait, G: Gate, L: Ledger>(
 fn serve_command<R: Wait, G: Gate, L: Ledger>(
     rt: &R,
     alloc: Global,
-    turns: &Turnstile<Held>,
-    pass: &mut Pass<Held>,
-    cell: &BasisCell,
+    turns: &Turnstile<BookInTurn>,
+    pass: &mut Pass<BookInTurn>,
+    basis: &Basis,
     script: &Script,
     command: &Command,
     gate: &G,
     steps: &mut Steps<L>,
 ) -> Result<Answer, Memory>
     requires idle { IsIdle turns.now pass.old }
+    requires basis { basis.now ≡ script.now.extent }
     requires served { (taken : ℕ) × (answers : List TheAnswer) × IsServing script.now (view pass.old) taken answers × IsNextCommand script.now (view pass.old).label taken command.now }
     requires command { IsCommand script.now.extent command.now }
     ensures idle { IsIdle turns.now pass.new }
@@ -106,23 +108,24 @@ fn serve_command<R: Wait, G: Gate, L: Ledger>(
 {
     match command {
         Command::Edit(edit) => serve_edit(rt, alloc, turns, pass, script, edit),
-        Command::Ask(ask) => serve_ask(rt, alloc, turns, pass, cell, script, ask, gate, steps),
+        Command::Ask(ask) => serve_ask(rt, alloc, turns, pass, basis, script, ask, gate, steps),
     }
 }
 
-/// Does the commands of the pass's session, whose number is the label of the pass, and gives their answers. Takes one step unit for each
+/// Does the commands of the pass's session, whose number is the label of the pass, and gives their answers. Takes one unit for each
 /// node that its looks visit and each row that is exponentiated for them.
 pub fn serve<R: Wait, G: Gate, L: Ledger>(
     rt: &R,
     alloc: Global,
-    turns: &Turnstile<Held>,
-    pass: &mut Pass<Held>,
-    cell: &BasisCell,
+    turns: &Turnstile<BookInTurn>,
+    pass: &mut Pass<BookInTurn>,
+    basis: &Basis,
     script: &Script,
     gate: &G,
     steps: &mut Steps<L>,
 ) -> Result<Transcript, Memory>
     requires idle { IsIdle turns.now pass.old }
+    requires basis { basis.now ≡ script.now.extent }
     requires opening { IsOpening script.now (view pass.old) }
     ensures idle { IsIdle turns.now pass.new }
     ensures still { IsStill (view pass.old) (view pass.new) }
@@ -133,7 +136,7 @@ pub fn serve<R: Wait, G: Gate, L: Ledger>(
     let sessions = script.sessions();
     let commands = sessions[pass.label() as usize - 1].list();
     for command in commands {
-        let answer = serve_command(rt, alloc, turns, pass, cell, script, command, gate, steps)?;
+        let answer = serve_command(rt, alloc, turns, pass, basis, script, command, gate, steps)?;
         transcript.push(answer)?;
     }
     Ok(transcript)

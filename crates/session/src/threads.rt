@@ -10,10 +10,10 @@ ghost use Rattle.session.specs.Turns.{IsIdle};
 ghost use Rattle.session.specs.Threads.{AreNew, IsReadyPass, AreReadyPasses, EachWorked, HasWorked, HaveWorked, AreJoined};
 
 use crate::answer::{Outcome, Transcript};
-use crate::held::Held;
+use crate::basis::Basis;
+use crate::held::BookInTurn;
 use crate::orders::outcome_of;
 use crate::serve::serve;
-use basis_cell::BasisCell;
 use book::Book;
 use script_reader::Script;
 use solve::Gate;
@@ -23,22 +23,22 @@ use std::sync::ledger::{Blank, Ledger};
 use std::thread;
 use std::thread::Threads;
 use turnstile::{Pass, Turnstile};
-use words::{Free, Memory, Steps};
+use words::{Capacity, Free, Memory, Steps};
 
 /// A pass that comes back, with the answers of its session where no step wanted memory.
 #[derive(Drop)]
 pub struct Worked {
-    pub pass: Pass<Held>,
+    pub pass: Pass<BookInTurn>,
     pub transcript: Option<Transcript>,
 }
 
 /// A pass for each session, whose label is the session.
 fn split_all(
     alloc: Global,
-    turns: &Turnstile<Held>,
-    head: &mut Pass<Held>,
+    turns: &Turnstile<BookInTurn>,
+    head: &mut Pass<BookInTurn>,
     sessions: u32,
-) -> Result<Vec<Pass<Held>>, Memory>
+) -> Result<Vec<Pass<BookInTurn>>, Memory>
     requires idle { IsIdle turns.now head.old }
     requires first { (frame : List ℕ) × (view head.old ≡ new_pass 0 frame []) }
     requires few { sessions ≤ 16 }
@@ -58,22 +58,23 @@ fn split_all(
 fn work_counted<R: Wait, G: Gate, L: Ledger>(
     rt: &R,
     alloc: Global,
-    turns: &Turnstile<Held>,
-    cell: &BasisCell,
+    turns: &Turnstile<BookInTurn>,
+    basis: &Basis,
     script: &Script,
     gate: &G,
-    mut pass: Pass<Held>,
+    mut pass: Pass<BookInTurn>,
     blank: Blank,
 ) -> Worked
     requires name { blank.name ≡ L.name }
     requires parts { blank.parts ≡ L.parts }
     requires counted { 0 < L.parts }
+    requires basis { basis.now ≡ script.now.extent }
     requires idle { IsIdle turns.now pass }
     requires opening { IsOpening script.now (view pass) }
     ensures { HasWorked turns.now (view pass).frame script.now (view pass).label result }
 {
     let mut steps: Steps<L> = Steps::new(blank);
-    let transcript = serve(rt, alloc, turns, &mut pass, cell, script, gate, &mut steps).ok();
+    let transcript = serve(rt, alloc, turns, &mut pass, basis, script, gate, &mut steps).ok();
     Worked { pass, transcript }
 }
 
@@ -81,48 +82,51 @@ fn work_counted<R: Wait, G: Gate, L: Ledger>(
 fn work<R: Wait, G: Gate>(
     rt: &R,
     alloc: Global,
-    turns: &Turnstile<Held>,
-    cell: &BasisCell,
+    turns: &Turnstile<BookInTurn>,
+    basis: &Basis,
     script: &Script,
     gate: &G,
-    pass: Pass<Held>,
+    pass: Pass<BookInTurn>,
 ) -> Worked
+    requires basis { basis.now ≡ script.now.extent }
     requires idle { IsIdle turns.now pass }
     requires opening { IsOpening script.now (view pass) }
     ensures { HasWorked turns.now (view pass).frame script.now (view pass).label result }
 {
-    work_counted::<R, G, Free>(rt, alloc, turns, cell, script, gate, pass, Blank::new(1))
+    work_counted::<R, G, Free>(rt, alloc, turns, basis, script, gate, pass, Blank::new(1))
 }
 
 /// What all sessions do, each on a thread.
 fn work_all<R: Threads + Wait + Sync, G: Gate>(
     rt: &R,
     alloc: Global,
-    turns: &Turnstile<Held>,
-    cell: &BasisCell,
+    turns: &Turnstile<BookInTurn>,
+    basis: &Basis,
     script: &Script,
     gate: &G,
-    passes: Vec<Pass<Held>>,
+    passes: Vec<Pass<BookInTurn>>,
 ) -> Result<Vec<Worked>, Memory>
-    requires { AreReadyPasses turns.now script.now passes.items }
+    requires basis { basis.now ≡ script.now.extent }
+    requires ready { AreReadyPasses turns.now script.now passes.items }
     ensures len { IfOk result (λ worked. length worked.items ≡ length passes.items) }
     ensures worked { IfOk result (λ worked. EachWorked turns.now script.now passes.items worked.items) }
 {
     Ok(thread::map_vec(
         rt,
         passes,
-        &|pass: Pass<Held>| -> Worked
-            requires { IsReadyPass turns.now script.now pass }
+        &|pass: Pass<BookInTurn>| -> Worked
+            requires basis { basis.now ≡ script.now.extent }
+            requires ready { IsReadyPass turns.now script.now pass }
             ensures { HasWorked turns.entry.now (view pass).frame script.entry.now (view pass).label result }
-        { work(rt, alloc, turns, cell, script, gate, pass) },
+        { work(rt, alloc, turns, basis, script, gate, pass) },
     )?)
 }
 
 /// Joins the passes that came back, and gives the answers of their sessions.
 fn join_all(
     alloc: Global,
-    turns: &Turnstile<Held>,
-    head: &mut Pass<Held>,
+    turns: &Turnstile<BookInTurn>,
+    head: &mut Pass<BookInTurn>,
     script: &Script,
     worked: Vec<Worked>,
 ) -> Result<Vec<Transcript>, Memory>
@@ -147,33 +151,31 @@ fn join_all(
     Ok(transcripts)
 }
 
-/// The outcome of a script whose sessions run on threads, each step in a hold of its own. The cache keeps so many nodes at most, from 1 to
-/// 16,384. The gate is called between each look that has a work and its solution, without the turn.
+/// The outcome of a script whose sessions run on threads, each step in a hold of its own. The cache keeps so many nodes at most.
+/// The gate is called between each look that has a work and its solution, without the turn.
 ///
 /// The order of the steps is legal, and all is as on one thread that takes them in this order.
 pub fn run_all<R: Threads + Wait + Sync, G: Gate>(
     rt: &R,
     alloc: Global,
     script: &Script,
-    capacity: u32,
+    capacity: Capacity,
     gate: &G,
 ) -> Result<Outcome, Memory>
-    requires some { 1 ≤ capacity }
-    requires within { capacity ≤ 16384 }
     ensures legal { IfOk result (λ outcome. illegal_place capacity script.now outcome.order.items ≡ None) }
     ensures outcome { IfOk result (λ outcome. IsOutcome script.now.extent outcome (due_outcome capacity script.now outcome.order.items)) }
     ensures members { IfOk result (AllHaveMembers script.now.extent) }
 {
     let sessions = script.sessions().len() as u32;
     let book = Book::new(alloc, script.shape(), capacity, sessions)?;
-    let Ok((turns, mut head)) = Turnstile::start(alloc, Held::of(book)) else {
+    let Ok((turns, mut head)) = Turnstile::start(alloc, BookInTurn::of(book)) else {
         return Err(Memory);
     };
     let passes = split_all(alloc, &turns, &mut head, sessions)?;
-    let cell = BasisCell::new(alloc);
-    let worked = work_all(rt, alloc, &turns, &cell, script, gate, passes)?;
+    let basis = Basis::build(alloc, script.shape())?;
+    let worked = work_all(rt, alloc, &turns, &basis, script, gate, passes)?;
     let transcripts = join_all(alloc, &turns, &mut head, script, worked)?;
-    let Held { book } = turns.finish(rt, head);
+    let BookInTurn { book } = turns.finish(rt, head);
     let _version = book.version();
     if book.spent() {
         return Err(Memory);

@@ -6,13 +6,13 @@ ghost use Rattle.definitions.specs.Logarithm.{logarithm};
 ghost use Rattle.definitions.specs.Moves.{Parts};
 ghost use Rattle.definitions.specs.Rows.{RowValue, moves_of};
 ghost use Rattle.tensor_product.specs.Sigs.{StandsFor};
-ghost use Rattle.hall_set.specs.Hall.{InHall, hall_list};
+ghost use Rattle.definitions.specs.Hall.{InHall, hall_list};
 ghost use Rattle.dynkin_map.specs.Coordinates.{lie_bounds, coordinates};
 ghost use Rattle.session.specs.Play.{valued};
 ghost use Rattle.session.specs.Answers.{Shows, HasMembers, IsAllowed};
 
 use crate::answer::Answer;
-use basis_cell::BasisCell;
+use crate::basis::Basis;
 use book::LookReply;
 use dynkin_map::{DynkinTable, LieFault};
 use exp_log::{LogFault, log};
@@ -20,7 +20,7 @@ use lie_bracket::{LieElement, TableFault};
 use script_reader::Kind;
 use std::alloc::Global;
 use tensor_product::Sig;
-use words::{Memory, Shape};
+use words::Memory;
 
 /// The coordinates of the logarithm of a signature whose weight fits.
 fn coordinates_of(alloc: Global, dynkin: &DynkinTable, sig: &Sig) -> Result<LieElement, Memory>
@@ -45,23 +45,22 @@ fn coordinates_of(alloc: Global, dynkin: &DynkinTable, sig: &Sig) -> Result<LieE
 /// The answer with this reply, from the signature of the rows, which have a value of this kind.
 pub fn answer_of(
     alloc: Global,
-    cell: &BasisCell,
-    shape: Shape,
+    basis: &Basis,
     kind: Kind,
     reply: LookReply,
     sig: &Sig,
 ) -> Result<Answer, Memory>
-    requires extent { sig.now.tensor.extent ≡ shape }
-    requires allowed { IsAllowed shape kind sig.now.weight }
-    ensures shows { (rows : List RowValue) → StandsFor sig.now (moves_of rows) → IfOk result (λ answer. Shows shape answer (valued shape kind reply rows)) }
-    ensures members { IfOk result (HasMembers shape) }
+    requires extent { sig.now.tensor.extent ≡ basis.now }
+    requires allowed { IsAllowed basis.now kind sig.now.weight }
+    ensures shows { (rows : List RowValue) → StandsFor sig.now (moves_of rows) → IfOk result (λ answer. Shows basis.now answer (valued basis.now kind reply rows)) }
+    ensures members { IfOk result (HasMembers basis.now) }
 {
     match kind {
         Kind::Sig => Ok(Answer::Sig {
             reply,
             tensor: sig.copy(alloc)?.into_tensor(),
         }),
-        Kind::Log => match cell.tables(alloc, shape) {
+        Kind::Log => match basis.tables(alloc) {
             Ok(held) => Ok(Answer::Log {
                 reply,
                 lie: coordinates_of(alloc, held.get().dynkin(), sig)?,

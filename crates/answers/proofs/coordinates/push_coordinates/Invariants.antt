@@ -1,5 +1,5 @@
 use Rattle.std.proofs.Common.{◌≡◌, ◌++◌, take, flat_map, string_bytes}
-use Rattle.hall_set.specs.Hall.{hall_list}
+use Rattle.definitions.specs.Hall.{hall_list}
 use Rattle.answers.specs.Text.{coordinate_text}
 use Rattle.answers.proofs.coordinates.push_coordinates.Given as goal
 

@@ -1,10 +1,17 @@
-use Rattle.std.proofs.Common.{◌≡◌, ◌∷◌, [], ap, arith, length, rules}
+use Rattle.std.proofs.Common.{◌≡◌, ◌∙◌, ◌∷◌, ◌<◌, ◌^◌, [], ℤ, List, ap, sym, subst, arith, length, rules}
+use Rattle.std.proofs.lemmas.List.Elements.{All-nil, All-cons}
 use Rattle.definitions.specs.Words.{Extent}
+use Rattle.definitions.specs.Moves.{AreParts}
 use Rattle.answers.proofs.generator.drawn_move.Goals as goal
 
 pub unreachable-requires : goal.unreachable-requires
 unreachable-requires c =
-    let parts : c.push.new.self.items ≡ c.in_ok-drawn_entries.field-0.items ∷ [] = search rules in
-    let two : length c.in_ok-drawn_entries.field-0.items ≡ 2 = ap length c.in_ok-drawn_entries.ensures in
+    let entries : List ℤ = c.in_ok-drawn_entries.field-0.items in
+    let parts : c.push.new.self.items ≡ entries ∷ [] = search rules in
+    let two : length entries ≡ 2 = ap length c.in_ok-drawn_entries.ensures in
     let width : c.args.shape.width ≡ 2 = ap (λ (e : Extent). e.width) c.requires in
-    c.in-None.ensures.refused c.in_ok-drawn_entries.field-0.items parts (omega arith)
+    let depth : c.args.shape.depth ≡ 4 = ap (λ (e : Extent). e.depth) c.requires in
+    let few : List ℤ → Type 0 = λ part. length part < 2 ^ 32 in
+    c.in-None.ensures.refused
+    (subst (AreParts c.args.shape) (sym parts)
+    (record { some = omega arith; few = omega (arith, depth); letters = two ∙ sym width; short = All-cons few entries [] (omega (arith, two)) (All-nil few) }))

@@ -1,6 +1,6 @@
 use Rattle.std.proofs.Common.{◌≡◌, take, flat_map}
 use Rattle.std.specs.Prelude.{map}
-use Rattle.hall_set.specs.Hall.{hall_list}
+use Rattle.definitions.specs.Hall.{hall_list}
 use Rattle.serde_json.specs.View.{view}
 use Rattle.answers.specs.Json.{coordinate_json}
 use Rattle.answers.proofs.json_levels.coordinate_terms.Given as goal

@@ -1,4 +1,4 @@
-use Rattle.std.proofs.Common.{◌≡◌, ◌∙◌, ap, sym, subst}
+use Rattle.std.proofs.Common.{ap, sym, subst}
 use Rattle.solve.specs.declared.plan.Plan.{Plan}
 use Rattle.node_cache.specs.Entries.{CacheValue}
 use Rattle.book.specs.Books.{Keeps, AreKept}

@@ -1,7 +1,6 @@
-use Rattle.std.proofs.Common.{◌≡◌, ◌∙◌, sym, ap, subst, arith, None, ℕ}
-use Rattle.definitions.specs.Rows.{rows_in, moves_of}
+use Rattle.std.proofs.Common.{◌≡◌, ◌∙◌, sym, ap, subst, arith, None, ℕ, List}
+use Rattle.definitions.specs.Rows.{RowValue, rows_in, moves_of}
 use Rattle.definitions.specs.Signature.{weight}
-use Rattle.increments.specs.Edits.{RowsValue}
 use Rattle.versions.specs.Versions.{rows_at}
 use Rattle.book.specs.VersionRows.{AreVersionRows}
 use Rattle.book.specs.Books.{held}
@@ -15,7 +14,7 @@ returns-in_err-plans-clause-at_most g c pending =
     let edits = c.args.log.now.edits in let q = c.args.q.now in let round = c.round-from.ensures in
     let none : look_refusal edits q ≡ None =
     refusal-is edits q c.args.version c.round-from.result.0 c.round-from.result.1 c.requires.looked c.requires.version round.from round.to
-    c.weight_in.result None (c.weight_in.ensures ∙ ap (λ (rows : RowsValue). weight (moves_of (rows_in c.round-from.result.0 c.round-from.result.1 rows.rows))) c.requires.rows)
+    c.weight_in.result None (c.weight_in.ensures ∙ ap (λ (rows : List RowValue). weight (moves_of (rows_in c.round-from.result.0 c.round-from.result.1 rows))) c.requires.rows)
     (sym (none-unless_some c.refusal.result c.in_default.not-Some) ∙ c.refusal.ensures) in (
       c.in_err-plans.ensures.at_most.0,
       omega (
@@ -29,7 +28,7 @@ answered : (g : given.Over) (c : goal.In_ok-plans g) → look_refusal c.args.log
 answered g c =
     refusal-is c.args.log.now.edits c.args.q.now c.args.version c.round-from.result.0 c.round-from.result.1 c.requires.looked c.requires.version
     c.round-from.ensures.from c.round-from.ensures.to c.weight_in.result None
-    (c.weight_in.ensures ∙ ap (λ (rows : RowsValue). weight (moves_of (rows_in c.round-from.result.0 c.round-from.result.1 rows.rows))) c.requires.rows)
+    (c.weight_in.ensures ∙ ap (λ (rows : List RowValue). weight (moves_of (rows_in c.round-from.result.0 c.round-from.result.1 rows))) c.requires.rows)
     (sym (none-unless_some c.refusal.result c.in_default.not-Some) ∙ c.refusal.ensures)
 
 pub returns-clause-planned : goal.returns-clause-planned
@@ -62,6 +61,4 @@ returns-clause-at_most g c pending =
 
 pub returns-clause-rows : goal.returns-clause-rows
 returns-clause-rows g c within =
-    let rows : AreVersionRows c.args.rows.now.extent c.args.rows.now.rows = record { order = c.shape.ensures.order; moves = c.shape.ensures.moves; few = omega (arith, c.len.ensures.value, c.len.ensures.bound) } in
-    subst (λ (v : ℕ). AreVersionRows c.args.log.now.extent (rows_at c.args.log.now.edits v)) (sym c.requires.looked)
-    (subst (λ (rows : RowsValue). AreVersionRows rows.extent rows.rows) c.requires.rows rows)
+    subst (λ (v : ℕ). AreVersionRows c.args.log.now.extent (rows_at c.args.log.now.edits v)) (sym c.requires.looked) c.requires.version_rows

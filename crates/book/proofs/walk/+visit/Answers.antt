@@ -1,8 +1,10 @@
-use Rattle.std.proofs.Common.{◌≡◌, ◌∙◌, ◌+◌, ◌<◌, ◌≤◌, ap, subst, sym, arith, length, refl, ℕ}
+use Rattle.std.proofs.Common.{◌≡◌, ◌∙◌, ◌+◌, ◌<◌, ◌≤◌, ap, subst, sym, arith, length, refl, ℕ, List}
 use Rattle.std.specs.Arc.{arc_value}
 use Rattle.std.proofs.lemmas.List.{nil_from_length}
 use Rattle.std.proofs.lemmas.Result.{IfOk-weaker}
-use Rattle.definitions.specs.Rows.{rows_in}
+use Rattle.definitions.specs.Words.{Extent}
+use Rattle.definitions.specs.Rows.{RowValue, rows_in}
+use Rattle.increments.specs.Edits.{RowsValue}
 use Rattle.dyadic.specs.Nodes.{NodeValue, low_of, high_of, left_of, right_of}
 use Rattle.tensor_product.specs.Sigs.{SigValue}
 use Rattle.solve.specs.declared.plan.Plan.{Hit as HitPlan, Unit as UnitPlan, Leaf as LeafPlan}
@@ -15,6 +17,10 @@ use Rattle.book.proofs.VisitLaws.{visit-hit, visit-unit, visit-few, visit-tick, 
 use Rattle.book.proofs.walk.+visit.Given.{Over}
 use Rattle.book.proofs.walk.+visit.Goals as goal
 use Rattle.book.proofs.walk.+visit.Goals.{In-Some-Some, in_default-2-via-in-Some+in_default, in_default-2-via-in_default}
+
+-- rows with moves of an extent
+abbrev beside : Extent → List RowValue → RowsValue
+beside shape list = record { extent = shape; rows = list }
 
 pub returns-in-Some-clause-plan : goal.returns-in-Some-clause-plan
 returns-in-Some-clause-plan g t c =
@@ -37,42 +43,42 @@ pub returns-then-count-eq0-clause-plan : goal.returns-then-count-eq0-clause-plan
 returns-then-count-eq0-clause-plan g t c =
     let log = c.args.log.now in let entries = c.args.cache.now.entries in let v = c.args.version in let s = c.since-since.result in let node = c.args.node in
     let same : s ≡ since_version (low_of node) (high_of node) log.edits v = c.since-since.ensures ∙ sym c.requires.untouched in
-    let rows : rows_in c.low.result c.high.result c.args.rows.now.rows ≡ node_rows log.edits v node = rows-in_node log v c.low.result c.high.result node c.args.rows.now c.low.ensures.value c.high.ensures.value c.requires.rows in
+    let rows : rows_in c.low.result c.high.result c.args.rows.now ≡ node_rows log.edits v node = rows-in_node log v c.low.result c.high.result node (beside log.extent c.args.rows.now) c.low.ensures.value c.high.ensures.value (ap (beside log.extent) c.requires.rows) in
     let none : count_at log.edits v node ≡ 0 = ap length (sym rows) ∙ sym c.count_in-count.ensures ∙ c.if-count-eq0.true in
     subst (λ (w : Visit). IsPlanOf log.extent log.edits v w (UnitPlan node)) (sym (visit-unit log.edits v (held entries) node (not_kept-at log entries v s node same (sym c.in_default.ensures)) none))
     (refl, nil_from_length (node_rows log.edits v node) none)
 
-pub returns-then-count-le-FEW-clause-plan : goal.returns-then-count-le-FEW-clause-plan
-returns-then-count-le-FEW-clause-plan g t c =
+pub returns-then-count-le-LEAF_ROWS-clause-plan : goal.returns-then-count-le-LEAF_ROWS-clause-plan
+returns-then-count-le-LEAF_ROWS-clause-plan g t c =
     let log = c.args.log.now in let entries = c.args.cache.now.entries in let v = c.args.version in let s = c.since-since.result in let node = c.args.node in
     let same : s ≡ since_version (low_of node) (high_of node) log.edits v = c.since-since.ensures ∙ sym c.requires.untouched in
-    let rows : rows_in c.low.result c.high.result c.args.rows.now.rows ≡ node_rows log.edits v node = rows-in_node log v c.low.result c.high.result node c.args.rows.now c.low.ensures.value c.high.ensures.value c.requires.rows in
+    let rows : rows_in c.low.result c.high.result c.args.rows.now ≡ node_rows log.edits v node = rows-in_node log v c.low.result c.high.result node (beside log.extent c.args.rows.now) c.low.ensures.value c.high.ensures.value (ap (beside log.extent) c.requires.rows) in
     let count : c.count_in-count.result ≡ count_at log.edits v node = c.count_in-count.ensures ∙ ap length rows in
-    let here : rows_in (low_of node) (high_of node) c.args.rows.now.rows ≡ node_rows log.edits v node = rows-in_node log v (low_of node) (high_of node) node c.args.rows.now refl refl c.requires.rows in
+    let here : rows_in (low_of node) (high_of node) c.args.rows.now ≡ node_rows log.edits v node = rows-in_node log v (low_of node) (high_of node) node (beside log.extent c.args.rows.now) refl refl (ap (beside log.extent) c.requires.rows) in
     let other = not_kept-at log entries v s node same (sym c.in_default.ensures) in
-    let is : IsPlanOf log.extent log.edits v (visit_of log.edits v (held entries) node) (LeafPlan node (rows_in (low_of node) (high_of node) c.args.rows.now.rows)) =
-    plan-leaf log.extent log.edits v (held entries) node (rows_in (low_of node) (high_of node) c.args.rows.now.rows) c.low.ensures.node here
-    (visit-few log.edits v (held entries) node other (omega (arith, count, c.if-count-eq0.false)) (omega (arith, count, c.if-count-le-FEW.true))) in
-    IfOk-weaker c.leaf.result (λ plan. plan ≡ LeafPlan node (rows_in (low_of node) (high_of node) c.args.rows.now.rows)) (IsPlanOf log.extent log.edits v (visit_of log.edits v (held entries) node))
+    let is : IsPlanOf log.extent log.edits v (visit_of log.edits v (held entries) node) (LeafPlan node (rows_in (low_of node) (high_of node) c.args.rows.now)) =
+    plan-leaf log.extent log.edits v (held entries) node (rows_in (low_of node) (high_of node) c.args.rows.now) c.low.ensures.node here
+    (visit-few log.edits v (held entries) node other (omega (arith, count, c.if-count-eq0.false)) (omega (arith, count, c.if-count-le-LEAF_ROWS.true))) in
+    IfOk-weaker c.leaf.result (λ plan. plan ≡ LeafPlan node (rows_in (low_of node) (high_of node) c.args.rows.now)) (IsPlanOf log.extent log.edits v (visit_of log.edits v (held entries) node))
     (λ plan e. subst (IsPlanOf log.extent log.edits v (visit_of log.edits v (held entries) node)) (sym e) is) c.leaf.ensures
 
 pub returns-in_default-2-clause-plan : goal.returns-in_default-2-clause-plan
 returns-in_default-2-clause-plan g t c =
     let log = c.args.log.now in let entries = c.args.cache.now.entries in let v = c.args.version in let s = c.since-since.result in let node = c.args.node in
     let same : s ≡ since_version (low_of node) (high_of node) log.edits v = c.since-since.ensures ∙ sym c.requires.untouched in
-    let rows : rows_in c.low.result c.high.result c.args.rows.now.rows ≡ node_rows log.edits v node = rows-in_node log v c.low.result c.high.result node c.args.rows.now c.low.ensures.value c.high.ensures.value c.requires.rows in
+    let rows : rows_in c.low.result c.high.result c.args.rows.now ≡ node_rows log.edits v node = rows-in_node log v c.low.result c.high.result node (beside log.extent c.args.rows.now) c.low.ensures.value c.high.ensures.value (ap (beside log.extent) c.requires.rows) in
     let count : c.count_in-count.result ≡ count_at log.edits v node = c.count_in-count.ensures ∙ ap length rows in
-    let here : rows_in (low_of node) (high_of node) c.args.rows.now.rows ≡ node_rows log.edits v node = rows-in_node log v (low_of node) (high_of node) node c.args.rows.now refl refl c.requires.rows in
+    let here : rows_in (low_of node) (high_of node) c.args.rows.now ≡ node_rows log.edits v node = rows-in_node log v (low_of node) (high_of node) node (beside log.extent c.args.rows.now) refl refl (ap (beside log.extent) c.requires.rows) in
     let other = not_kept-at log entries v s node same (sym c.in_default.ensures) in
     let tick : node.height ≡ 0 =
     elim c.in_default-2.branch [
       | in_default-2-via-in-Some+in_default w ↦ no_half c.right.result node (right_of node) c.right.ensures w.in_default-2.is-1
       | in_default-2-via-in_default w ↦ no_half c.left.result node (left_of node) c.left.ensures w.in_default-2.is-0
     ] in
-    let is : IsPlanOf log.extent log.edits v (visit_of log.edits v (held entries) node) (LeafPlan node (rows_in (low_of node) (high_of node) c.args.rows.now.rows)) =
-    plan-leaf log.extent log.edits v (held entries) node (rows_in (low_of node) (high_of node) c.args.rows.now.rows) c.low.ensures.node here
-    (visit-tick log.edits v (held entries) node other (omega (arith, count, c.if-count-le-FEW.false)) tick) in
-    IfOk-weaker c.leaf-in_default-2.result (λ plan. plan ≡ LeafPlan node (rows_in (low_of node) (high_of node) c.args.rows.now.rows)) (IsPlanOf log.extent log.edits v (visit_of log.edits v (held entries) node))
+    let is : IsPlanOf log.extent log.edits v (visit_of log.edits v (held entries) node) (LeafPlan node (rows_in (low_of node) (high_of node) c.args.rows.now)) =
+    plan-leaf log.extent log.edits v (held entries) node (rows_in (low_of node) (high_of node) c.args.rows.now) c.low.ensures.node here
+    (visit-tick log.edits v (held entries) node other (omega (arith, count, c.if-count-le-LEAF_ROWS.false)) tick) in
+    IfOk-weaker c.leaf-in_default-2.result (λ plan. plan ≡ LeafPlan node (rows_in (low_of node) (high_of node) c.args.rows.now)) (IsPlanOf log.extent log.edits v (visit_of log.edits v (held entries) node))
     (λ plan e. subst (IsPlanOf log.extent log.edits v (visit_of log.edits v (held entries) node)) (sym e) is) c.leaf-in_default-2.ensures
 
 pub visit-requires : goal.visit-requires
@@ -105,8 +111,8 @@ many : (g : Over) (t : ℕ) (c : In-Some-Some g t)
     ≡ Split c.args.node (visit_of c.args.log.now.edits c.args.version (held c.args.cache.now.entries) c.in-Some-Some.left) (visit_of c.args.log.now.edits c.args.version (held c.args.cache.now.entries) c.in-Some-Some.right)
 many g t c =
     halved c.args.log.now c.args.cache.now.entries c.args.version c.since-since.result c.args.node (c.since-since.ensures ∙ sym c.requires.untouched)
-    c.low.result c.high.result c.count_in-count.result c.in-Some-Some.left c.in-Some-Some.right c.args.rows.now (sym c.in_default.ensures) c.low.ensures.value c.high.ensures.value c.requires.rows
-    c.count_in-count.ensures c.if-count-le-FEW.false c.in-Some-Some.ensures.0 c.in-Some-Some.ensures.1 c.in-Some-Some.ensures'.1
+    c.low.result c.high.result c.count_in-count.result c.in-Some-Some.left c.in-Some-Some.right (beside c.args.log.now.extent c.args.rows.now) (sym c.in_default.ensures) c.low.ensures.value c.high.ensures.value (ap (beside c.args.log.now.extent) c.requires.rows)
+    c.count_in-count.ensures c.if-count-le-LEAF_ROWS.false c.in-Some-Some.ensures.0 c.in-Some-Some.ensures.1 c.in-Some-Some.ensures'.1
 
 pub returns-in_err-first-clause-at_most : goal.returns-in_err-first-clause-at_most
 returns-in_err-first-clause-at_most g t c =

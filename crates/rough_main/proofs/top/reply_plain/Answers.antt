@@ -3,6 +3,7 @@ use Rattle.command_line.specs.declared.wish.Form.{Form}
 use Rattle.command_line.specs.declared.wish.Wish.{Wish}
 use Rattle.words.specs.declared.memory.Memory.{Memory as NoMemory}
 use Rattle.rough_io.specs.declared.source.ReceiveFault.TheVariants.{Memory}
+use Rattle.rough_main.specs.Statuses.{code_of}
 use Rattle.rough_main.specs.declared.reply.Reply.{Reply}
 use Rattle.rough_main.specs.Due.{IsReply, script_reply, generated_reply, unread_reply, form_of, capacity_of, order_in}
 use Rattle.rough_main.specs.Calls.{Port}
@@ -34,12 +35,12 @@ returns-in-Ok g c = λ order.
           let form : form_of wish ≡ w.in-Given.form = ap form_of w.in-Given.is in
           let capacity : capacity_of wish ≡ w.in-Given.capacity = ap capacity_of w.in-Given.is in
           let given : order_in wish order ≡ w.list.result.now = ap (λ (x : Wish). order_in x order) w.in-Given.is ∙ sym w.list.ensures in
-          let made : IsReply reply.status reply.text.items (script_reply w.in-Given.form w.in-Given.capacity w.list.result.now spelled.0) =
+          let made : IsReply (code_of reply.status) reply.text.items (script_reply w.in-Given.form w.in-Given.capacity w.list.result.now spelled.0) =
           made-is _ _ _ reply w.made-is c.in-Ok.is (w.reply_in_order-made.ensures spelled.0 spelled.1) in
-          let due : IsReply reply.status reply.text.items (script_reply (form_of wish) (capacity_of wish) (order_in wish order) spelled.0) =
-          subst (λ (f : Form). IsReply reply.status reply.text.items (script_reply f (capacity_of wish) (order_in wish order) spelled.0)) (sym form)
-          (subst (λ (n : ℕ). IsReply reply.status reply.text.items (script_reply w.in-Given.form n (order_in wish order) spelled.0)) (sym capacity)
-          (subst (λ (o : List ℕ). IsReply reply.status reply.text.items (script_reply w.in-Given.form w.in-Given.capacity o spelled.0)) (sym given) made)) in
+          let due : IsReply (code_of reply.status) reply.text.items (script_reply (form_of wish) (capacity_of wish) (order_in wish order) spelled.0) =
+          subst (λ (f : Form). IsReply (code_of reply.status) reply.text.items (script_reply f (capacity_of wish) (order_in wish order) spelled.0)) (sym form)
+          (subst (λ (n : ℕ). IsReply (code_of reply.status) reply.text.items (script_reply w.in-Given.form n (order_in wish order) spelled.0)) (sym capacity)
+          (subst (λ (o : List ℕ). IsReply (code_of reply.status) reply.text.items (script_reply w.in-Given.form w.in-Given.capacity o spelled.0)) (sym given) made)) in
           subst (λ (s : _). IsMade wish order (Ok reply) source (record { told = g.S.Source.left s; faults = g.S.Source.faults s })) (sym w.source-is)
           (made-replied wish order reply source (record { told = g.S.Source.left w.read_source.new.source; faults = g.S.Source.faults w.read_source.new.source })
           spelled.0 w.in_ok-parsed-in-Given.parsed (ap unread_reply w.in-Given.is) spelled.1 spelled.2 due read.logarithms read.versions read.whole read.size read.taken read.ok)

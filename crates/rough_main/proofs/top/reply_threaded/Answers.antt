@@ -4,6 +4,7 @@ use Rattle.command_line.specs.declared.wish.Wish.{Wish}
 use Rattle.rough_io.specs.declared.source.ReceiveFault.TheVariants.{Memory}
 use Rattle.script_reader.specs.declared.fault.ScriptFault.{ScriptFault}
 use Rattle.script_reader.specs.Script.{ScriptValue, parse}
+use Rattle.rough_main.specs.Statuses.{code_of}
 use Rattle.rough_main.specs.declared.reply.Reply.{Reply}
 use Rattle.rough_main.specs.Due.{IsReply, IsLegalFor, script_reply, form_of, capacity_of, order_in}
 use Rattle.rough_main.proofs.CallLaws.{threaded-is_read, spelled-by_told, made-replied, made-failed}
@@ -20,10 +21,10 @@ returns-in-Ok g c =
     let form : form_of wish ≡ c.in-Threads.form = ap form_of c.in-Threads.is in
     let capacity : capacity_of wish ≡ c.in-Threads.capacity = ap capacity_of c.in-Threads.is in
     let taken : order_in wish order ≡ order = ap (λ (w : Wish). order_in w order) c.in-Threads.is in
-    let due : IsReply reply.status reply.text.items (script_reply (form_of wish) (capacity_of wish) (order_in wish order) spelled.0) =
-    subst (λ (f : Form). IsReply reply.status reply.text.items (script_reply f (capacity_of wish) (order_in wish order) spelled.0)) (sym form)
-    (subst (λ (n : ℕ). IsReply reply.status reply.text.items (script_reply c.in-Threads.form n (order_in wish order) spelled.0)) (sym capacity)
-    (subst (λ (o : List ℕ). IsReply reply.status reply.text.items (script_reply c.in-Threads.form c.in-Threads.capacity o spelled.0)) (sym taken) made.2)) in (
+    let due : IsReply (code_of reply.status) reply.text.items (script_reply (form_of wish) (capacity_of wish) (order_in wish order) spelled.0) =
+    subst (λ (f : Form). IsReply (code_of reply.status) reply.text.items (script_reply f (capacity_of wish) (order_in wish order) spelled.0)) (sym form)
+    (subst (λ (n : ℕ). IsReply (code_of reply.status) reply.text.items (script_reply c.in-Threads.form n (order_in wish order) spelled.0)) (sym capacity)
+    (subst (λ (o : List ℕ). IsReply (code_of reply.status) reply.text.items (script_reply c.in-Threads.form c.in-Threads.capacity o spelled.0)) (sym taken) made.2)) in (
       order,
       (λ bytes told.
           subst (λ (n : ℕ). IsLegalFor n order (parse bytes)) (sym capacity)

@@ -23,8 +23,13 @@ returns-in_default-read_words g c =
     record {
       call = (
         [],
-        (λ threaded answered bytes told. absurd (elim answered [ inl answer ↦ fault-is_no_answer 6 (omega arith) answer | inr five ↦ omega arith ])),
+        (λ threaded answered bytes told. absurd (elim answered [ inl answer ↦ fault-is_no_answer c.code.result (omega (arith, c.code.ensures)) answer | inr five ↦ omega (arith, c.code.ensures) ])),
         subst
+            (λ (status : ℕ). IsCall wish [] status (record { told = g.S.Source.left c.args.source.now; faults = g.S.Source.faults c.args.source.now })
+            (record { told = g.S.Source.left c.rough_plain.new.source; faults = g.S.Source.faults c.rough_plain.new.source })
+            (record { told = g.O.Sink.written c.args.sink.now; faults = g.O.Sink.faults c.args.sink.now })
+            (record { told = g.O.Sink.written c.rough_plain.new.sink; faults = g.O.Sink.faults c.rough_plain.new.sink })) (sym c.code.ensures)
+            (subst
             (λ (s : _). IsCall wish [] no_memory (record { told = g.S.Source.left c.args.source.now; faults = g.S.Source.faults c.args.source.now })
             (record { told = g.S.Source.left s; faults = g.S.Source.faults s })
             (record { told = g.O.Sink.written c.args.sink.now; faults = g.O.Sink.faults c.args.sink.now })
@@ -37,7 +42,7 @@ returns-in_default-read_words g c =
             (call-without_memory wish [] (record { told = g.S.Source.left c.args.source.now; faults = g.S.Source.faults c.args.source.now })
             (record { told = g.S.Source.left c.args.source.now; faults = g.S.Source.faults c.args.source.now })
             (record { told = g.O.Sink.written c.args.sink.now; faults = g.O.Sink.faults c.args.sink.now })
-            (made-without_memory wish [] (record { told = g.S.Source.left c.args.source.now; faults = g.S.Source.faults c.args.source.now })))),
+            (made-without_memory wish [] (record { told = g.S.Source.left c.args.source.now; faults = g.S.Source.faults c.args.source.now }))))),
       );
     }
 

@@ -1,5 +1,5 @@
 use Rattle.std.proofs.Common.{◌≡◌, ◌∙◌, ℕ, List, ap, sym, subst}
-use Rattle.definitions.specs.Words.{IsShape}
+use Rattle.definitions.specs.Words.{Extent, IsShape}
 use Rattle.dynkin_map.specs.Coordinates.{lie_bounds}
 use Rattle.book.specs.declared.query.Allowed.TheVariants.{Fits}
 use Rattle.book.specs.Looks.{AllowsSignatures}
@@ -7,10 +7,13 @@ use Rattle.session.proofs.AllowedLaws.{flat-signatures, table-signatures}
 use Rattle.session.proofs.query.allowed_for.Goals as goal
 
 pub returns-in-Sig-clause-signatures : goal.returns-in-Sig-clause-signatures
-returns-in-Sig-clause-signatures c = subst (λ (factors : List ℕ). AllowsSignatures c.args.shape (Fits factors)) (sym c.flat.ensures) (flat-signatures c.args.shape)
+returns-in-Sig-clause-signatures c =
+    let same : c.shape.result ≡ c.args.basis.now = c.shape.ensures.value ∙ c.hall.ensures in
+    subst (λ (extent : Extent). AllowsSignatures extent (Fits c.flat.result)) same
+    (subst (λ (factors : List ℕ). AllowsSignatures c.shape.result (Fits factors)) (sym c.flat.ensures) (flat-signatures c.shape.result))
 
 pub returns-in-Ok-clause-signatures : goal.returns-in-Ok-clause-signatures
 returns-in-Ok-clause-signatures c =
-    let same : c.dynkin.result.now ≡ c.args.shape = c.dynkin.ensures.value ∙ c.get.ensures ∙ c.in-Ok.ensures.tables in
-    subst (λ (factors : List ℕ). AllowsSignatures c.args.shape (Fits factors)) (sym (c.bound.ensures.value ∙ ap lie_bounds same))
-    (table-signatures c.args.shape (subst IsShape same c.bound.ensures.shape))
+    let same : c.dynkin.result.now ≡ c.args.basis.now = c.dynkin.ensures.value ∙ c.get.ensures ∙ c.in-Ok.ensures.tables in
+    subst (λ (factors : List ℕ). AllowsSignatures c.args.basis.now (Fits factors)) (sym (c.bound.ensures.value ∙ ap lie_bounds same))
+    (table-signatures c.args.basis.now (subst IsShape same c.bound.ensures.shape))

@@ -98,14 +98,14 @@ returns-in-Ask-clause-run g c =
     on_ok_weaker c.look_step.result
     (run-after c.args.script.now c.args.run.now c.args.session c.sessions-sessions.ensures.script c.requires.run c.requires.next c.args.script.now.extent
     (Looking c.args.session (query_for c.args.script.now.extent c.in-Ask.ask)) c.look_step.new.run refl refl (looks g (goal.at.returns-in-Ask-clause-run g c).In-Ask))
-    (subst (λ (e : Extent). OnOk c.look_step.result (IsAfter e c.args.session (Looking c.args.session (query_for e c.in-Ask.ask)) c.args.run.now c.look_step.new.run)) c.shape.ensures.value
+    (subst (λ (e : Extent). OnOk c.look_step.result (IsAfter e c.args.session (Looking c.args.session (query_for e c.in-Ask.ask)) c.args.run.now c.look_step.new.run)) c.requires.basis
     c.look_step.ensures.after)
 
 pub returns-in-Ask-clause-order : goal.returns-in-Ask-clause-order
 returns-in-Ask-clause-order g c =
     on_ok_weaker c.look_step.result
-    (λ (after : IsAfter c.shape.result c.args.session (Looking c.args.session (query_for c.shape.result c.in-Ask.ask)) c.args.run.now c.look_step.new.run).
-    ap (λ (b : BookValue). order_of b) after.book ∙ order-push c.args.run.now.book c.args.session (Looking c.args.session (query_for c.shape.result c.in-Ask.ask)) refl)
+    (λ (after : IsAfter c.args.basis.now c.args.session (Looking c.args.session (query_for c.args.basis.now c.in-Ask.ask)) c.args.run.now c.look_step.new.run).
+    ap (λ (b : BookValue). order_of b) after.book ∙ order-push c.args.run.now.book c.args.session (Looking c.args.session (query_for c.args.basis.now c.in-Ask.ask)) refl)
     c.look_step.ensures.after
 
 -- the request by the script's shape
@@ -116,9 +116,9 @@ shaped g c shape is = ap (λ (e : Extent). Some (Looking c.args.session (query_f
 pub returns-in-Ask-clause-ticks : goal.returns-in-Ask-clause-ticks
 returns-in-Ask-clause-ticks g c =
     subst (λ (o : Option Request). OnOk c.look_step.result (c.look_step.new.steps ≡ c.args.steps.now + units_of (state_of c.args.run.now.book) o))
-    (shaped g (goal.at.returns-in-Ask-clause-ticks g c).In-Ask c.shape.result c.shape.ensures.value) c.look_step.ensures.ticks
+    (shaped g (goal.at.returns-in-Ask-clause-ticks g c).In-Ask c.args.basis.now c.requires.basis) c.look_step.ensures.ticks
 
 pub returns-in-Ask-clause-at_most : goal.returns-in-Ask-clause-at_most
 returns-in-Ask-clause-at_most g c =
     subst (λ (o : Option Request). (c.args.steps.now ≤ c.look_step.new.steps) × (c.look_step.new.steps ≤ c.args.steps.now + units_of (state_of c.args.run.now.book) o))
-    (shaped g (goal.at.returns-in-Ask-clause-at_most g c).In-Ask c.shape.result c.shape.ensures.value) c.look_step.ensures.at_most
+    (shaped g (goal.at.returns-in-Ask-clause-at_most g c).In-Ask c.args.basis.now c.requires.basis) c.look_step.ensures.at_most

@@ -24,7 +24,7 @@ answer_look-requires-clause-looked g c κs within =
     let was = c.requires.served in
     let did = c.in_ok-looked.ensures.adds in (
       book_of (view c.args.pass.now).frame did.0,
-      looked-for c.args.script.now (view c.args.pass.now) (view c.look.new.pass) was.0 was.1 was.2 c.shape-shape.ensures.script c.args.ask.now was.3 c.shape-shape.result c.shape-shape.ensures.value
+      looked-for c.args.script.now (view c.args.pass.now) (view c.look.new.pass) was.0 was.1 was.2 c.shape-shape.ensures.script c.args.ask.now was.3 c.args.basis.now c.requires.basis
           c.label-session.result c.label-session.ensures c.in_ok-q.q c.in_ok-q.ensures.value c.in_ok-looked.looked did.0 did.1 did.2,
     )
 
@@ -36,7 +36,7 @@ is-pending g c =
     let did = c.in_ok-looked.ensures.adds in
     let told = c.in_ok-answer.ensures in
     subst (IsAnswered c.args.script.now (view c.args.pass.now) (view c.look.new.pass) did.0 c.args.ask.now c.in_ok-answer.answer) c.in-Some.is
-    (answered c.args.script.now (view c.args.pass.now) (view c.look.new.pass) was.0 was.1 was.2 c.shape-shape.ensures.script c.args.ask.now was.3 c.shape-shape.result c.shape-shape.ensures.value
+    (answered c.args.script.now (view c.args.pass.now) (view c.look.new.pass) was.0 was.1 was.2 c.shape-shape.ensures.script c.args.ask.now was.3 c.args.basis.now c.requires.basis
     c.label-session.result c.label-session.ensures c.in_ok-q.q c.in_ok-q.ensures.value c.in_ok-looked.looked did.0 did.1 did.2
     c.in_ok-answer.answer c.in_ok-answer.solved told.shows told.members told.solved told.pending)
 
@@ -59,7 +59,7 @@ is-answered g c =
     let was = c.requires.served in
     let did = c.in_ok-looked.ensures.adds in
     let told = c.in_ok-answer.ensures in
-    answered c.args.script.now (view c.args.pass.now) (view c.look.new.pass) was.0 was.1 was.2 c.shape-shape.ensures.script c.args.ask.now was.3 c.shape-shape.result c.shape-shape.ensures.value
+    answered c.args.script.now (view c.args.pass.now) (view c.look.new.pass) was.0 was.1 was.2 c.shape-shape.ensures.script c.args.ask.now was.3 c.args.basis.now c.requires.basis
     c.label-session.result c.label-session.ensures c.in_ok-q.q c.in_ok-q.ensures.value c.in_ok-looked.looked did.0 did.1 did.2
     c.in_ok-answer.answer c.in_ok-answer.solved told.shows told.members told.solved told.pending
 
@@ -94,7 +94,7 @@ returns-clause-ticks g c =
     let did = c.in_ok-looked.ensures.adds in
     let looked : c.answer_look.new.steps + units_by (moments_of (seen_book (view c.args.pass.now)) (view c.args.pass.now).label)
     ≡ c.args.steps.now + units_by (moments_of (seen_book (view c.look.new.pass)) (view c.args.pass.now).label) =
-    look-units c.args.script.now (view c.args.pass.now) (view c.look.new.pass) was.0 was.1 was.2 c.shape-shape.ensures.script c.args.ask.now was.3 c.shape-shape.result c.shape-shape.ensures.value
+    look-units c.args.script.now (view c.args.pass.now) (view c.look.new.pass) was.0 was.1 was.2 c.shape-shape.ensures.script c.args.ask.now was.3 c.args.basis.now c.requires.basis
     c.label-session.result c.label-session.ensures c.in_ok-q.q c.in_ok-q.ensures.value c.in_ok-looked.looked did.0 did.1 did.2
     c.args.steps.now c.look.new.steps c.answer_look.new.steps did.3 c.in_ok-answer.ensures.ticks
     in

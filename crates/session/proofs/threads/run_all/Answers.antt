@@ -52,7 +52,8 @@ work_all-requires g c =
       idle = new.0;
       opening = opening-pass c.args.script.now c.in_ok-book.book (1 + i) (view (slice_index_or passes i d)) new.1 (first-extent g at) (first-sessions g at) here;
     } in
-    (c.type_bounds.sync-R, (c.type_bounds.sync-G, ready))
+    let same : c.in_ok-basis.basis ≡ c.args.script.now.extent = search rules in
+    (c.type_bounds.sync-R, (c.type_bounds.sync-G, (same, ready)))
 
 pub join_all-requires-clause-each : goal.join_all-requires-clause-each
 join_all-requires-clause-each g c =

@@ -11,8 +11,8 @@ use Rattle.session.proofs.value.answer_of.Goals as goal
 
 pub coordinates_of-requires-clause-fits : goal.coordinates_of-requires-clause-fits
 coordinates_of-requires-clause-fits c =
-    let held : c.get.result.now ≡ c.args.shape = c.get.ensures ∙ c.in-Ok.ensures.tables in
-    let same : c.args.shape ≡ c.dynkin.result.now = sym (c.dynkin.ensures.value ∙ held) in
-    let allowed : IsAllowed c.args.shape Log c.args.sig.now.weight = subst (λ (kind : Kind). IsAllowed c.args.shape kind c.args.sig.now.weight) c.in-Log.is c.requires.allowed in
+    let held : c.get.result.now ≡ c.args.basis.now = c.get.ensures ∙ c.in-Ok.ensures.tables in
+    let same : c.args.basis.now ≡ c.dynkin.result.now = sym (c.dynkin.ensures.value ∙ held) in
+    let allowed : IsAllowed c.args.basis.now Log c.args.sig.now.weight = subst (λ (kind : Kind). IsAllowed c.args.basis.now kind c.args.sig.now.weight) c.in-Log.is c.requires.allowed in
     subst (λ (extent : Extent). Fits (lie_bounds extent) c.args.sig.now.weight) same
-    (allowed-fits c.args.shape c.args.sig.now.weight (subst AreLight held c.dynkin.ensures.light) allowed)
+    (allowed-fits c.args.basis.now c.args.sig.now.weight (subst AreLight held c.dynkin.ensures.light) allowed)

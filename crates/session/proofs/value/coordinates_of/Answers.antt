@@ -3,7 +3,7 @@ use Rattle.std.specs.Prelude.{All}
 use Rattle.definitions.specs.Words.{Extent, IsWord}
 use Rattle.definitions.specs.Signature.{Fits, signature}
 use Rattle.definitions.specs.Logarithm.{logarithm}
-use Rattle.hall_set.specs.Hall.{InHall, hall_list}
+use Rattle.definitions.specs.Hall.{InHall, hall_list}
 use Rattle.scaled_tensor.specs.Tensors.{coefficient}
 use Rattle.exp_log.specs.Faults.{LogFits, IsRefusedBy}
 use Rattle.lie_bracket.specs.declared.term.Term.{Term}

@@ -17,4 +17,4 @@ invariant_of-result c =
     subst (λ (log : LogValue). IsHeld log c.in_ok-cache.cache pending c.new-3.result.items false) (sym c.new-2.ensures)
     (subst (λ (cache : CacheValue). IsHeld no_edits cache pending c.new-3.result.items false) (sym c.in_ok-cache.ensures)
     (subst (λ (steps : List Step). IsHeld no_edits empty pending steps false) (sym c.new-3.ensures.items)
-    (held-first c.args.shape c.args.capacity c.args.sessions pending c.requires.some c.requires.within c.requires.one c.requires.few are)))
+    (held-first c.args.shape c.args.capacity c.args.sessions pending (omega (arith, c.get-nodes.ensures.value, c.get-nodes.ensures.range.0)) (omega (arith, c.get-nodes.ensures.value, c.get-nodes.ensures.range.1)) c.requires.one c.requires.few are)))

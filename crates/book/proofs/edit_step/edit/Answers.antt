@@ -1,4 +1,4 @@
-use Rattle.std.proofs.Common.{◌≡◌, ◌∙◌, ◌++◌, ◌∷◌, [], List, ℕ, sym, ap, subst, true, false}
+use Rattle.std.proofs.Common.{◌≡◌, ◌∙◌, ◌++◌, ◌∷◌, [], List, sym, ap, subst, true, false}
 use Rattle.std.specs.Prelude.{All, filter, not}
 use Rattle.std.proofs.lemmas.List.{same_from_push}
 use Rattle.node_cache.specs.Entries.{CacheValue, Entry}
@@ -7,8 +7,8 @@ use Rattle.versions.specs.Versions.{LogValue, accepts, current_rows, after_edit}
 use Rattle.book.specs.Play.{pairs_after_edit, is_past}
 use Rattle.book.specs.Books.{AreKept, Keeps, held}
 use Rattle.book.proofs.EditLaws.{taken, done-accepted, undone-refused, after-accepted, after-refused, pairs-accepted, pairs-refused, kept-after}
-use Rattle.book.proofs.editing.edit.Goals.{in-Done, in_default}
-use Rattle.book.proofs.editing.edit.Goals as goal
+use Rattle.book.proofs.edit_step.edit.Goals.{in-Done, in_default}
+use Rattle.book.proofs.edit_step.edit.Goals as goal
 
 pub drop_past-requires : goal.drop_past-requires
 drop_past-requires c before last is =

@@ -15,9 +15,9 @@ use Rattle.book.specs.Play.{look_refusal, pending_look, pending_with, looked_ver
 use Rattle.book.specs.Books.{held, IsPendingOr}
 use Rattle.book.proofs.LookLaws.{unrefused, refused-never_found}
 use Rattle.book.proofs.LookingLaws.{looked_state, IsAnswered, planned-answered, planned-refused, valid, fits, work-of, found-reply, missed-nodes, missed-pending, hits-in_front, after-refused, state-answered, reply-refused}
-use Rattle.book.proofs.looking.look.Given as given
-use Rattle.book.proofs.looking.look.Goals as goal
-use Rattle.book.proofs.looking.look.Goals.{In-Refused, In-Plans}
+use Rattle.book.proofs.look_step.look.Given as given
+use Rattle.book.proofs.look_step.look.Goals as goal
+use Rattle.book.proofs.look_step.look.Goals.{In-Refused, In-Plans}
 
 pub returns-in_err-reply-clause-at_most : goal.returns-in_err-reply-clause-at_most
 returns-in_err-reply-clause-at_most g c = c.in_err-reply.ensures.at_most c.args.pending.now.items

@@ -7,6 +7,7 @@ ghost use Rattle.book.specs.Plans.{HasSignature};
 ghost use Rattle.std.specs.Arc.{arc_value};
 ghost use Rattle.book.specs.Books.{AreKept, held};
 
+use crate::expiry::SPAN;
 use dyadic::Node;
 use node_cache::NodeCache;
 use solve::SolvedNode;
@@ -20,11 +21,8 @@ fn is_past(log: &EditLog, version: u64, node: Node) -> bool
     ensures value { result ≡ is_past_at log.now.edits node version }
     ensures log { IsLog log.now }
 {
-    let current = log.len();
-    match log.touched_since(version, node) {
-        Some(touch) => touch + 64 <= current,
-        None => false,
-    }
+    let ended = log.len().saturating_sub(SPAN);
+    log.since(node, ended) > version
 }
 
 /// Keeps the signatures of the nodes at a version, but those whose versions ended long ago; answers how many it kept.

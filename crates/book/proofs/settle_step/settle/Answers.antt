@@ -8,7 +8,7 @@ use Rattle.book.specs.Play.{PendingLook, pending_of}
 use Rattle.book.specs.Plans.{IsSettlement}
 use Rattle.book.specs.Books.{IsPending, IsPendingOr, IsSettledBy}
 use Rattle.book.proofs.SettledLaws.{nodes-settled}
-use Rattle.book.proofs.settle.settle.Goals as goal
+use Rattle.book.proofs.settle_step.settle.Goals as goal
 
 pub settle_nodes-requires-clause-nodes : goal.settle_nodes-requires-clause-nodes
 settle_nodes-requires-clause-nodes c =

@@ -3,7 +3,7 @@ use Rattle.definitions.specs.Signature.{limit}
 use Rattle.solve.specs.Plans.{total_weight}
 use Rattle.tensor_product.proofs.SigLaws.{weight-fits}
 use Rattle.book.proofs.LookingLaws.{not_refused}
-use Rattle.book.proofs.looking.work_of.Goals as goal
+use Rattle.book.proofs.look_step.work_of.Goals as goal
 
 pub of-requires : goal.of-requires
 of-requires c =

@@ -5,8 +5,8 @@ ghost use Rattle.book.specs.Play.{PendingLook, pending_of, pending_with, settled
 ghost use Rattle.book.specs.Plans.{IsSettlement};
 ghost use Rattle.book.specs.Books.{AreKept, ArePending, IsSession, IsSettledBy, held};
 
+use crate::keeping::settle_nodes;
 use crate::pending::Pending;
-use crate::settling::settle_nodes;
 use crate::step::Step;
 use node_cache::NodeCache;
 use solve::Solved;

@@ -1,6 +1,6 @@
 use Rattle.std.proofs.Common.{◌≤◌, take}
 use Rattle.book.proofs.SettledLaws.{IsSettledTo}
-use Rattle.book.proofs.settling.settle_nodes.Given as goal
+use Rattle.book.proofs.keeping.settle_nodes.Given as goal
 
 abbrev pub invariant-loop-s : goal.invariant-loop-s
 invariant-loop-s l = record {

@@ -4,8 +4,8 @@ use Rattle.node_cache.specs.Entries.{CacheValue}
 use Rattle.solve.specs.declared.solution.SolvedNode.{SolvedNode}
 use Rattle.versions.specs.Versions.{LogValue}
 use Rattle.book.proofs.SettledLaws.{settled-past, settled-recent}
-use Rattle.book.proofs.settling.settle_nodes.Goals as goal
-use Rattle.book.proofs.settling.settle_nodes.Goals.{then-not-is_past+in_ok-try_clone+in_ok-keep, else-not-is_past}
+use Rattle.book.proofs.keeping.settle_nodes.Goals as goal
+use Rattle.book.proofs.keeping.settle_nodes.Goals.{then-not-is_past+in_ok-try_clone+in_ok-keep, else-not-is_past}
 
 pub loop-s-preserved : goal.loop-s-preserved
 loop-s-preserved c =

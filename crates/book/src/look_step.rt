@@ -63,7 +63,7 @@ fn pending_of(version: u64, missed: Vec<Node>) -> Option<Pending>
     }
 }
 
-/// A look, with its step. Takes one step for each visited node, and after want of memory at most so many; that leaves all else as it was.
+/// A look, with its step. Takes one unit for each visited node, and after want of memory at most so many; that leaves all else as it was.
 pub fn look<L: Ledger>(
     alloc: Global,
     stream: &Stream,
