@@ -1,0 +1,60 @@
+"""Checks of the client and the program against the independent one; each raises AssertionError where they differ."""
+
+from __future__ import annotations
+
+import random
+from fractions import Fraction
+
+import rough
+from chen import Rows, chen, rows_in
+
+
+def edited_stream(
+    seed: int, width: int, depth: int, program: rough.Program | None = None, max_degree: int = 1
+) -> tuple[rough.Stream, list[Rows]]:
+    """A stream of random edits with a small cache, and the rows of each version; rows have parts up to a degree."""
+    draw = random.Random(seed)
+    stream = rough.Stream(width, depth, program=program, cache=draw.choice([1, 3, 64]))
+    rows: Rows = {}
+    versions = [dict(rows)]
+    for _ in range(40):
+        count = draw.choice([width, *rough.basis.entry_counts(width, depth)[:max_degree]])
+        entries = tuple(draw.randint(-9, 9) for _ in range(count))
+        name = draw.choice(list(rows)) if rows and draw.random() < 0.5 else None
+        if name is None:
+            tick = draw.randrange(4 * rough.script.TICKS)
+            rows[stream.append(Fraction(tick, rough.script.TICKS), entries)] = tick, entries
+        elif draw.random() < 0.7:
+            stream.correct(name, entries)
+            rows[name] = rows[name][0], entries
+        else:
+            stream.remove(name)
+            del rows[name]
+        versions.append(dict(rows))
+    return stream, versions
+
+
+def check_answers(seed: int, width: int, depth: int, program: rough.Program | None = None, max_degree: int = 1) -> None:
+    """Signatures and logarithms of random intervals, resolutions and versions."""
+    draw = random.Random(-seed)
+    stream, versions = edited_stream(seed, width, depth, program, max_degree)
+    queries = []
+    for _ in range(12):
+        start, stop = sorted(Fraction(draw.randrange(5 * 2**16), 2**16) for _ in range(2))
+        queries.append(rough.Query("sig", start, stop, draw.choice([0, 1, 3, 16]), draw.randrange(stream.version + 1)))
+    signatures = stream.ask(queries)
+    logarithms = stream.ask([query._replace(kind="log") for query in queries])
+    for query, signature, logarithm in zip(queries, signatures, logarithms):
+        due = chen(rows_in(versions[query.at], query.start, query.stop, query.resolution), width, depth)
+        assert signature.terms() == {word: x for word, x in due.items() if x}, query
+        assert logarithm.expand() == signature.log(), query
+        assert signature.version == logarithm.version == query.at, query
+
+
+def check_weight(program: rough.Program | None = None) -> None:
+    """The weight that an overflow tells is the sum of the greatest entries of the rows."""
+    rows = [[60000, -1], [7, -97]]
+    stream = rough.Stream.from_increments(rows, depth=8, program=program)
+    (refusal,) = stream.ask([("sig", 0, 2)], refusals="keep")
+    assert isinstance(refusal, rough.Overflow), refusal
+    assert refusal.weight == sum(max(map(abs, row)) for row in rows), refusal
