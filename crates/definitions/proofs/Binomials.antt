@@ -50,6 +50,7 @@ binomial a b (suc k) =
     let before : count_below (suc k) (binomial_term a b k) ≡ (a + b) ^ k = binomial a b k in
     omega (arith, ap (λ (n : ℕ). a * n) before, ap (λ (n : ℕ). b * n) before)
 
+-- a factorial is at least 1
 pub factorial-pos : (n : ℕ) → 1 ≤ factorial n
 factorial-pos zero = omega arith
 factorial-pos (suc n) = omega (arith, factorial-pos n)

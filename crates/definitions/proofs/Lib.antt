@@ -1,3 +1,4 @@
+pub mod Options
 pub mod Integers
 pub mod SumLaws
 pub mod Binomials

@@ -6,6 +6,12 @@ use Rattle.std.proofs.lemmas.Int.{ints}
 use Rattle.definitions.specs.Sums.{sum_below, count_below}
 use Rattle.definitions.proofs.Integers.{mul-add_ℤ, abs-add}
 
+-- a sum of naturals, as integers
+pub sum_below-pos : (n : ℕ) (g : ℕ → ℕ) → sum_below n (λ i. pos (g i)) ≡ pos (count_below n g)
+unfolding sum_below count_below
+sum_below-pos zero g = refl
+sum_below-pos (suc n) g = ap (λ (z : ℤ). z +ℤ pos (g n)) (sum_below-pos n g)
+
 -- the sum of sums, of naturals
 pub count_below-add : (n : ℕ) (f g : ℕ → ℕ) → count_below n (λ i. f i + g i) ≡ count_below n f + count_below n g
 unfolding count_below

@@ -91,7 +91,9 @@ value-same n s r (t ∷ terms) same =
 
 -- one value more
 pub record IsNextSum (n : ℕ) (s : List ℕ → ℤ) (terms : List WordTerm) (i : ℕ) (z : ℤ) : Type 0 where
+  -- z is the value of the first i + 1 terms
   pub value_is : z ≡ value n s (take (i + 1) terms)
+  -- it is in range
   pub bounded : unsigned_abs z ≤ limit
 
 -- the value of one term more, which is in range where the sum of all absolute values is

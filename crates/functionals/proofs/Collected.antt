@@ -229,6 +229,7 @@ shuffled-words extent (t ∷ f) g hf hg within =
     (shuffled-words extent f g (All-tail (HasWord extent) t f hf) hg (omega (arith, le-max_right (length t.word) (reach f))))
 
 -- ---- the law
+-- at a signature, the value of the shuffle product times the factorial of the depth is the product of both values
 pub shuffle_product-value : (moves : List Parts) (extent : Extent) (f g : List WordTerm) → IsFunctional extent f → IsFunctional extent g → reach f + reach g ≤ extent.depth
     → pos (factorial extent.depth) *ℤ value extent.depth (signature moves) (shuffle_product extent f g) ≡ value extent.depth (signature moves) f *ℤ value extent.depth (signature moves) g
 shuffle_product-value moves extent f g isf isg within =

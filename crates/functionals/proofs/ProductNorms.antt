@@ -86,6 +86,7 @@ norm-shuffled (t ∷ f) g h =
     )
 
 -- ---- the coefficient of a word
+-- the coefficient of a word in two lists of terms together is the sum of those in each
 pub coefficient_at-append : (f g : List WordTerm) (w : List ℕ) → coefficient_at (f ++ g) w ≡ coefficient_at f w +ℤ coefficient_at g w
 coefficient_at-append [] g w = omega (arith, ints)
 coefficient_at-append (t ∷ f) g w = omega (arith, ints, coefficient_at-append f g w)

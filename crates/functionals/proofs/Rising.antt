@@ -17,8 +17,11 @@ use Rattle.functionals.proofs.ProductNorms.{shuffle_product-norm}
 
 -- ---- the list of words, by place
 record IsPlaced (width k i : ℕ) (word : List ℕ) : Type 0 where
+  -- its letters are from 1 to the width
   pub letters : All (IsLetter width) word
+  -- it has fewer than k of them
   pub short : length word < k
+  -- its place among all words is i
   pub place_is : shorter width (length word) + number width word ≡ i
 
 longer : (width k i : ℕ) (word : List ℕ) → IsPlaced width k i word → IsPlaced width (suc k) i word

@@ -36,6 +36,7 @@ numbers-at n p q small within =
     (sym (ap (λ (w : Bool). guarded w (λ x. eqb (factorial n * (part_of n (p + q) * binom (p + q) p)) (part_of n p * part_of n q))) (le-leb (p + q) n within)) ∙ entry)
 
 -- ---- values
+-- the value of two lists of terms together is the sum of their values
 pub value-append : (n : ℕ) (s : List ℕ → ℤ) (f g : List WordTerm) → value n s (f ++ g) ≡ value n s f +ℤ value n s g
 value-append n s [] g = omega (arith, ints)
 value-append n s (t ∷ f) g = omega (arith, ints, value-append n s f g)

@@ -23,6 +23,7 @@ of_degree-each : (P : ℕ → Type 0) (hall : List Member) (n : ℕ) → All P (
 of_degree-each P hall n all h inside e =
     up_to-each (λ x. eqb (degree hall x) n ≡ true → P x) (length hall) (All-from_kept P (λ x. eqb (degree hall x) n) (up_to (length hall)) all) h inside.least inside.most (eq-eqb (degree hall h) n e)
 
+-- the numbers of the members of one degree rise
 pub of_degree-rises : (hall : List Member) (n : ℕ) → AllPairs (λ a b. a < b) (of_degree hall n)
 of_degree-rises hall n = AllPairs-filter (λ a b. a < b) (λ h. eqb (degree hall h) n) (up_to (length hall)) (up_to-rises (length hall))
 

@@ -75,9 +75,11 @@ up_to-each P (suc n) all h least most =
 pub AllPairs-nil : {X : Type 0} (R : X → X → Type 0) → AllPairs R []
 AllPairs-nil R i j d lt len = absurd (omega arith)
 
+-- what holds of each two holds of the first element and each other one
 pub AllPairs-head : {X : Type 0} (R : X → X → Type 0) (x : X) (xs : List X) → AllPairs R (x ∷ xs) → All (R x) xs
 AllPairs-head R x xs h = λ k d lt. h 0 (suc k) d (omega arith) (omega arith)
 
+-- and of each two after the first
 pub AllPairs-tail : {X : Type 0} (R : X → X → Type 0) (x : X) (xs : List X) → AllPairs R (x ∷ xs) → AllPairs R xs
 AllPairs-tail R x xs h = λ i j d lt len. h (suc i) (suc j) d (omega arith) (omega arith)
 

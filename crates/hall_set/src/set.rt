@@ -1,4 +1,5 @@
-ghost use Rattle.std.specs.Prelude.{◌≡◌, ◌++◌, ◌≤◌, IfOk, OnOk, MatchOption, length, string_bytes};
+ghost use Rattle.std.specs.Prelude.{◌≡◌, ◌++◌, ◌≤◌, IfOk, OnOk, OnErr, MatchOption, length, string_bytes};
+ghost use mathlib.Core.List.{IsPrefix};
 ghost use Rattle.definitions.specs.Words.{IsShape};
 ghost use Rattle.definitions.specs.Hall.{InHall, hall_list, member, degree, number_of, text_of};
 ghost use Rattle.definitions.specs.declared.member.Member.TheVariants.{Letter, Pair};
@@ -97,10 +98,11 @@ impl HallSet {
     }
 
     /// Appends the text of the member of the number h: of a letter its number, of a pair the texts of the two in square brackets, with a comma between.
-    /// After want of memory a part of it may have been appended.
+    /// After want of memory the text begins with what it had; a part of the member's text may stand after it.
     pub fn write_text(&self, h: u32, text: &mut String) -> Result<(), Memory>
         requires { InHall (hall_list self.now.width self.now.depth) h }
-        ensures { OnOk result (string_bytes text.new ≡ string_bytes text.old ++ text_of (hall_list self.now.width self.now.depth) h) }
+        ensures text { OnOk result (string_bytes text.new ≡ string_bytes text.old ++ text_of (hall_list self.now.width self.now.depth) h) }
+        ensures begins { OnErr result (IsPrefix (string_bytes text.old) (string_bytes text.new)) }
     {
         push_text(&self.members, h, text)?;
         Ok(())

@@ -8,6 +8,7 @@ use Rattle.std.proofs.lemmas.List.Elements.{All-cons, All-head, All-tail}
 use Rattle.definitions.specs.Words.{Extent}
 use Rattle.definitions.specs.Moves.{Parts}
 use Rattle.definitions.specs.Rows.{RowValue, with_row, is_live}
+use Rattle.definitions.proofs.Options.{is_some-map}
 use Rattle.increments.specs.declared.fault.RowFault.{RowFault}
 use Rattle.increments.specs.declared.fault.RowFault.TheVariants.{NameTaken}
 use Rattle.increments.specs.Edits.{RowsValue, is_named, row_of, tick_of, with_move, without}
@@ -21,10 +22,6 @@ is_live-row_of name (r ∷ rows) =
       | inl named ↦ (ap (λ b. b || is_live name rows) named ∙ sym (ap is_some (found name r rows named)))
       | inr other ↦ (ap (λ b. b || is_live name rows) other ∙ is_live-row_of name rows ∙ sym (ap is_some (passed name r rows other)))
     ]
-
-is_some-map : {A B : Type 0} (f : A → B) (o : Option A) → is_some (option_map f o) ≡ is_some o
-is_some-map f None = refl
-is_some-map f (Some x) = refl
 
 -- what is found by name is there exactly where the name is live
 pub live : {B : Type 0} (f : RowValue → B) (name : List ℕ) (rows : List RowValue) (r : Option B) → r ≡ option_map f (row_of name rows) → IsSome r ↔ IsTrue (is_live name rows)

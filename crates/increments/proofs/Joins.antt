@@ -18,6 +18,13 @@ in_order-head r rows order k d h = not-later r (get_or rows k d) (order zero (su
 pub in_order-tail : (r : RowValue) (rows : List RowValue) → IsInOrder (r ∷ rows) → IsInOrder rows
 in_order-tail r rows order i j d lt within = order (suc i) (suc j) d (omega arith) (omega arith)
 
+-- there are no rows in an empty interval
+pub no-rows : (a : ℕ) (rows : List RowValue) → rows_in a a rows ≡ []
+no-rows a [] = refl
+no-rows a (r ∷ rows) =
+    let out : lies_in a a r.tick ≡ false = grind (arith, nat_tests) in
+    rw out (no-rows a rows)
+
 none-before : (a b t : ℕ) (rows : List RowValue) → b ≤ t → All (λ s. t ≤ s.tick) rows → rows_in a b rows ≡ []
 none-before a b t [] h later = refl
 none-before a b t (r ∷ rows) h later =

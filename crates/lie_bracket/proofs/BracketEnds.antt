@@ -10,6 +10,7 @@ use Rattle.definitions.specs.declared.member.Member.TheVariants.{Letter, Pair}
 use Rattle.hall_set.proofs.GrownLists.{IsPairOf, IsLate, IsHall}
 use Rattle.lie_bracket.specs.declared.term.Term.{Term}
 use Rattle.lie_bracket.specs.Brackets.{term, scaled, over_terms, by_parents, by_number, by_degree, bracket_within, enough, bracket, majorant}
+use Rattle.lie_bracket.specs.Rewriting.{IsBracket}
 use Rattle.lie_bracket.proofs.BracketTerms.{IsTermOf, Homogeneous, bracket_within-terms}
 
 -- ---- the bracket ends: what is left of the fuel
@@ -110,20 +111,6 @@ bracket_within-agree depth hall minus ok (suc fuel) zero a b ha hb has has' = ab
 bracket_within-agree depth hall minus ok (suc fuel) (suc fuel') a b ha hb has has' =
     by_degree-agree depth hall minus fuel fuel' (bracket_within minus depth hall fuel) (bracket_within minus depth hall fuel') ok (bracket_within-terms depth hall minus ok fuel) (bracket_within-agree depth hall minus ok fuel fuel')
     a b (ltb b a) (eqb a b || ltb depth (degree hall a + degree hall b)) ha hb has has' refl refl
-
--- the equations of the bracket, with this sign for what is subtracted
-pub record IsBracket (minus : ℤ → ℤ) (depth : ℕ) (hall : List Member) (br : ℕ → ℕ → List Term) : Type 0 where
-  -- the bracket of a member with itself is nothing
-  pub same : (a : ℕ) → br a a ≡ []
-  -- so is one whose degrees add up to more than the depth
-  pub deep : (a b : ℕ) → depth < degree hall a + degree hall b → br a b ≡ []
-  -- in the other order it has the other sign
-  pub swapped : (a b : ℕ) → InHall hall a → InHall hall b → b < a → degree hall a + degree hall b ≤ depth → br a b ≡ scaled minus (br b a)
-  -- a pair of the list is its own bracket
-  pub found : (a b n : ℕ) → InHall hall a → InHall hall b → a < b → degree hall a + degree hall b ≤ depth → number_of hall a b ≡ suc n → br a b ≡ term (pos 1) (suc n) ∷ []
-  -- otherwise it is that of the parents: for b = [l, r] the bracket with r of [a, l], minus that with l of [a, r]
-  pub split : (a b n l r : ℕ) → InHall hall a → InHall hall b → a < b → degree hall a + degree hall b ≤ depth → number_of hall a b ≡ 0 → member hall b ≡ Pair n l r
-      → br a b ≡ over_terms (br a l) (λ c. br c r) ++ scaled minus (over_terms (br a r) (λ c. br c l))
 
 -- all brackets at so much fuel are those with enough
 at-step : (minus : ℤ → ℤ) (depth : ℕ) (hall : List Member) (fuel a b : ℕ) (above none : Bool) → ltb b a ≡ above → (eqb a b || ltb depth (degree hall a + degree hall b)) ≡ none

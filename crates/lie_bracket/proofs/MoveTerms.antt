@@ -231,6 +231,7 @@ part-push (k ∷ hs) h (x ∷ xs) =
 abbrev pub first_of_degree : List Member → ℕ → ℕ → List ℕ
 first_of_degree hall n at = filter (λ h. eqb (degree hall h) n) (up_to at)
 
+-- if the next member is of degree n, it is added at the end
 pub first-more : (hall : List Member) (n at : ℕ) → degree hall (suc at) ≡ n → first_of_degree hall n (suc at) ≡ first_of_degree hall n at ++ suc at ∷ []
 first-more hall n at e =
     filter-append (λ h. eqb (degree hall h) n) (up_to at) (suc at ∷ [])

@@ -21,7 +21,8 @@ use Rattle.lie_bracket.specs.Brackets.{scaled, over_terms, coefficient, bracket,
 use Rattle.lie_bracket.specs.Tables.{nonzero}
 use Rattle.lie_bracket.specs.Entries.{signed, sizes, Numbers, AreSmall, stored, looked_up, bracket_by, entry_of, IsPair, AreDone, IsTable}
 use Rattle.lie_bracket.proofs.BracketTerms.{IsTermOf, bracket_within-terms}
-use Rattle.lie_bracket.proofs.BracketEnds.{IsBracket, bracket-IsBracket, majorant-IsBracket}
+use Rattle.lie_bracket.specs.Rewriting.{IsBracket}
+use Rattle.lie_bracket.proofs.BracketEnds.{bracket-IsBracket, majorant-IsBracket}
 use Rattle.lie_bracket.proofs.TermSums.{coefficient-append, coefficient-over}
 use Rattle.lie_bracket.proofs.SumSteps.{coefficient-signed, abs-coefficient, sizes-over, sizes-looked_up, abs-signed, signed-mul, over-same, over-nothing, coefficient-outside}
 use Rattle.lie_bracket.proofs.NonzeroLaws.{coefficient-nonzero, nonzero-Numbers, nonzero-same}

@@ -1,4 +1,5 @@
 pub mod Brackets
+pub mod Rewriting
 pub mod Elements
 pub mod Expanding
 pub mod Entries

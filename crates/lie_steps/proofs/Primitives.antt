@@ -35,6 +35,7 @@ primitive-of_vanishing z none vanishes = record { splits = splits }
     splits (a ∷ u) [] = over-none_right z (a ∷ u) ∙ omega (arith, ints, mul-one_ℤ (z (a ∷ u)), zero-mul_ℤ (z []))
     splits (a ∷ u) (b ∷ v) = vanishes (a ∷ u) (b ∷ v) (omega arith) (omega arith) ∙ omega (arith, ints, *ℤ-zero (z (a ∷ u)), zero-mul_ℤ (z (b ∷ v)))
 
+-- a series with the same values as such a series is one, too
 pub primitive-same : (s t : List ℕ → ℤ) → ((w : List ℕ) → s w ≡ t w) → IsPrimitive s → IsPrimitive t
 primitive-same s t same ok =
     record {
@@ -71,6 +72,7 @@ primitive-mul c s hs =
           ∙ ap₂ ◌+ℤ◌ (sym (mul_assoc_ℤ c (s u) (unit v))) (sym (swap-front (unit u) c (s v)));
     }
 
+-- the series of a letter is such a series
 pub letter-primitive : (a : ℕ) → IsPrimitive (letter a)
 letter-primitive a =
     primitive-of_vanishing (letter a) refl
@@ -99,9 +101,11 @@ sum_over-sub : (f g : List ℕ → ℤ) (ws : List (List ℕ)) → sum_over (λ 
 sum_over-sub f g [] = refl
 sum_over-sub f g (w ∷ ws) = omega (arith, ints, sum_over-sub f g ws)
 
+-- a difference times z is the difference of the products
 pub sub-mul : (x y z : ℤ) → (x -ℤ y) *ℤ z ≡ (x *ℤ z) -ℤ (y *ℤ z)
 sub-mul x y z = add-mul_ℤ x (neg_ℤ y) z ∙ ap (λ (i : ℤ). (x *ℤ z) +ℤ i) (neg-mul y z)
 
+-- so is z times a difference
 pub mul-sub : (z x y : ℤ) → z *ℤ (x -ℤ y) ≡ (z *ℤ x) -ℤ (z *ℤ y)
 mul-sub z x y = *ℤ_comm z (x -ℤ y) ∙ sub-mul x y z ∙ ap₂ ◌-ℤ◌ (*ℤ_comm x z) (*ℤ_comm y z)
 

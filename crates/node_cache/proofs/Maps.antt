@@ -9,6 +9,7 @@ use Rattle.std.specs.declared.sync.Arc.{Arc}
 use Rattle.std.proofs.lemmas.Bool.{cases_Bool}
 use Rattle.std.proofs.lemmas.List.{take-map}
 use Rattle.lru.specs.LruCache.{LruCache, lru_cache, promoted as moved, put_entries}
+use Rattle.definitions.proofs.Options.{is_some-map}
 use Rattle.tensor_product.specs.Sigs.{SigValue}
 use Rattle.dyadic.specs.Nodes.{NodeValue}
 use Rattle.node_cache.specs.Entries.{Entry, IsCache, is_of, are_of_one_pair, entry_of, sig_of, without_pair, promoted, kept, entry_at, cache_of}
@@ -27,10 +28,6 @@ after_found node since f es here apart = without-none node since es (along es ap
     along : (gs : List Entry) → AllByRecursion (λ g. are_of_one_pair f g ≡ false) gs → AllByRecursion (λ g. is_of node since g ≡ false) gs
     along [] none = tt
     along (g ∷ gs) none = (is_of-along node since f g here ∙ none.0, along gs none.1)
-
-found : {X Y : Type 0} (f : X → Y) (o : Option X) → is_some (option_map f o) ≡ is_some o
-found f None = refl
-found f (Some x) = refl
 
 module _ {Z : Type 0} (node : NodeValue) (since : ℕ) where
   tested : (e : Shared Z) → is_pair node since e.0 ≡ is_of node since (entry_at e)
@@ -62,7 +59,7 @@ module _ {Z : Type 0} (node : NodeValue) (since : ℕ) where
   -- the pair has an entry where the map has the pair
   pub is_some-entry_of : (es : List (Shared Z)) → is_some (entry_of node since (map entry_at es)) ≡ is_some (lookup (is_pair node since) es)
   is_some-entry_of es =
-      sym (found (λ (e : Entry). e.sig) (entry_of node since (map entry_at es))) ∙ ap is_some (sig_of-map es) ∙ found arc_value (lookup (is_pair node since) es)
+      sym (is_some-map (λ (e : Entry). e.sig) (entry_of node since (map entry_at es))) ∙ ap is_some (sig_of-map es) ∙ is_some-map arc_value (lookup (is_pair node since) es)
 
   -- no pair stands twice, so that there is one entry to take out
   without-map : (es : List (Shared Z)) → IsDistinct are_of_one_pair (map entry_at es) → without_pair node since (map entry_at es) ≡ map entry_at (remove_entry (is_pair node since) es)

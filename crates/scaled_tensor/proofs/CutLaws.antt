@@ -23,10 +23,15 @@ number-cut width (suc i) (a ∷ word) h =
 
 -- a word of i + j letters, whose parts have the numbers q and r
 pub record IsJoined (width i j q r : ℕ) (word : List ℕ) : Type 0 where
+  -- its letters are from 1 to the width
   pub letters : All (IsLetter width) word
+  -- it has i + j of them
   pub len : length word ≡ i + j
+  -- the first i have the number q
   pub head : number width (take i word) ≡ q
+  -- the others have the number r
   pub tail : number width (drop i word) ≡ r
+  -- the number of the word is q times the count of words of j letters, plus r
   pub whole : number width word ≡ q * width ^ j + r
 
 place-joined : (width i j q r : ℕ) → q < width ^ i → r < width ^ j → q * width ^ j + r < width ^ (i + j)
@@ -48,10 +53,15 @@ word-joined width i j q r hq hr =
 
 -- two lists by the parts of the words of k letters, which stand from a place on
 pub record IsCut (t : TensorValue) (k i from : ℕ) (left right : List ℤ) : Type 0 where
+  -- words of k letters are within the depth
   pub deep : k ≤ t.extent.depth
+  -- the left part has no more than these k letters
   pub within : i ≤ k
+  -- the place comes after all words of fewer letters
   pub from_is : from ≡ shorter t.extent.width k
+  -- the left list has a number for each word of i letters
   pub left_len : length left ≡ t.extent.width ^ i
+  -- the right one has a number for each word of k - i letters
   pub right_len : length right ≡ t.extent.width ^ (k - i)
 
 level-size : (t : TensorValue) (k i from : ℕ) (left right : List ℤ) → IsCut t k i from left right → length left * length right ≡ t.extent.width ^ k
@@ -66,9 +76,13 @@ cut-within t k i from left right ok cut =
 
 -- the word whose parts have the numbers q and r
 pub record IsAt (t : TensorValue) (k i from q r : ℕ) (left right : List ℤ) (word : List ℕ) : Type 0 where
+  -- it is a word of the tensor's extent
   pub is_word : IsWord t.extent word
+  -- it has k letters
   pub len : length word ≡ k
+  -- from the place on, its coefficient is the one at q times the length of the right list, plus r
   pub value : coefficient t word ≡ get_or t.coefficients (from + (q * length right + r)) (pos 0)
+  -- the outer product has the left number at q times the right one at r there
   pub outer : outer_at t.extent.width i left right word ≡ get_or left q (pos 0) *ℤ get_or right r (pos 0)
 
 word-at-cut : (t : TensorValue) (k i from q r : ℕ) (left right : List ℤ) → IsCut t k i from left right → q < length left → r < length right

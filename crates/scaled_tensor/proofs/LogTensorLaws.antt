@@ -73,6 +73,7 @@ none-at-zero : (z : ℤ) (n : ℕ) → unsigned_abs z ≤ n * log_bound 0 → z 
 unfolding log_bound count_below
 none-at-zero z n h = omega (arith, ints)
 
+-- a tensor whose words up to the depth have the bounds of a logarithm is within these, and 0 at the empty word
 pub all-bounded : (t : TensorValue) (weight k : ℕ) → t.extent.depth < k
     → ((word : List ℕ) → IsWord t.extent word → length word < k → unsigned_abs (coefficient t word) ≤ weight ^ length word * log_bound (length word))
     → IsLogTensor (record { tensor = t; weight = weight })

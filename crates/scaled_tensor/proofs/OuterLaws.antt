@@ -5,8 +5,11 @@ use Rattle.std.proofs.lemmas.Bool.{cases_lt}
 
 -- the first n numbers of a run are added to, and the others are as they were
 pub record IsRun (from count n : ℕ) (factor : ℤ) (right old now : List ℤ) : Type 0 where
+  -- to each of the first n the factor times the number of the right list is added
   pub run : (i : ℕ) → i < n → get_or now (from + i) (pos 0) ≡ get_or old (from + i) (pos 0) +ℤ factor *ℤ get_or right i (pos 0)
+  -- the numbers after these are as they were
   pub rest : (i : ℕ) → n ≤ i → get_or now (from + i) (pos 0) ≡ get_or old (from + i) (pos 0)
+  -- so are those before the run and after it
   pub others : (i : ℕ) → (i < from) ⊎ (from + count ≤ i) → get_or now i (pos 0) ≡ get_or old i (pos 0)
 
 -- one number more of the run
@@ -31,8 +34,11 @@ run-step from count n factor right old now z run rest others here room ez = reco
 
 -- the first n runs of an outer product are added, each of m numbers
 pub record IsOuter (from at n m : ℕ) (left right old now : List ℤ) : Type 0 where
+  -- at is the place where these runs end
   pub at_is : at ≡ from + n * m
+  -- in run i, to number r is added the left number at i times the right one at r
   pub run : (i r : ℕ) → i < n → r < m → get_or now (from + (i * m + r)) (pos 0) ≡ get_or old (from + (i * m + r)) (pos 0) +ℤ get_or left i (pos 0) *ℤ get_or right r (pos 0)
+  -- the numbers before these runs and after them are as they were
   pub others : (i : ℕ) → (i < from) ⊎ (at ≤ i) → get_or now i (pos 0) ≡ get_or old i (pos 0)
 
 -- one run more of the outer product

@@ -9,12 +9,18 @@ use Rattle.scaled_tensor.specs.Tensors.{TensorValue, IsTensor, coefficient}
 
 -- the prefix of i + 1 letters: how many words are shorter, how many are as long, and its number among these
 pub record IsNext (width i before level index room : ℕ) (word : List ℕ) : Type 0 where
+  -- how many words have at most i letters
   pub next_before : before + level ≡ shorter width (i + 1)
+  -- how many have i + 1 letters
   pub next_level : level * width ≡ width ^ (i + 1)
+  -- the number of the prefix, from that of one letter less and from its last letter
   pub next_index : index * width + (get_or word i 0 - 1) ≡ number width (take (i + 1) word)
+  -- the words of i + 1 letters are no more than there is room for
   pub level_fits : level * width ≤ room
+  -- the place of the prefix is one within the room
   pub place : before + level + (index * width + (get_or word i 0 - 1)) < room
 
+-- they come from these numbers for the prefix of i letters
 pub next : (width i before level index room : ℕ) (word : List ℕ) → All (IsLetter width) word → i < length word → shorter width (suc (length word)) ≤ room
     → before ≡ shorter width i → level ≡ width ^ i → index ≡ number width (take i word) → IsNext width i before level index room word
 next width i before level index room word letters here enough eb el ei =
@@ -44,6 +50,7 @@ written-next values z n f here before new i h =
       | inr l ↦ get_or-set_other values (n + 1) i z (pos 0) (λ same. omega arith) ∙ before i (omega arith)
     ]
 
+-- there is a coefficient for each word that is no longer than this one
 pub prefixes-within : (t : TensorValue) (word : List ℕ) (width : ℕ) (coefficients : List ℤ) → IsTensor t → IsWord t.extent word → width ≡ t.extent.width → coefficients ≡ t.coefficients
     → shorter width (suc (length word)) ≤ length coefficients
 prefixes-within t word width coefficients ok is_word ew ec =
@@ -55,6 +62,7 @@ prefixes-within t word width coefficients ok is_word ew ec =
       ap (λ (xs : List ℤ). length xs) ec,
     )
 
+-- at the place of the prefix of i letters stands its coefficient
 pub prefix-coefficient : (t : TensorValue) (word : List ℕ) (i : ℕ) → i ≤ length word
     → get_or t.coefficients (shorter t.extent.width i + number t.extent.width (take i word)) (pos 0) ≡ coefficient t (take i word)
 unfolding coefficient

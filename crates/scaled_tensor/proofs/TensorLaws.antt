@@ -13,6 +13,7 @@ use Rattle.definitions.specs.Signature.{limit}
 use Rattle.definitions.proofs.WordLaws.{place-lt, place-injective, shorter_part, number-lt}
 use Rattle.scaled_tensor.specs.Tensors.{TensorValue, IsTensor, place, coefficient}
 
+-- a number in range is the same in 128 bits
 pub in_range_kept : (z : ℤ) → unsigned_abs z ≤ limit → to_z w128 (of_z w128 z) ≡ z
 in_range_kept z h = to_z-of_z (fits_signed_from_abs w128 z (omega arith))
 
@@ -21,6 +22,7 @@ pub place-within : (t : TensorValue) (word : List ℕ) → IsTensor t → IsWord
 place-within t word ok is_word =
     omega (arith, place-lt t.extent.width t.extent.depth word is_word.letters is_word.short, ok.all_words)
 
+-- what is read at the place of a word, in 128 bits, is its coefficient
 pub read-is : (t : TensorValue) (word : List ℕ) (n : ℕ) (z : ℤ) → IsTensor t → IsWord t.extent word → n ≡ place t.extent word
     → z ≡ get_or t.coefficients n z → to_z w128 (of_z w128 z) ≡ coefficient t word
 unfolding coefficient
@@ -34,12 +36,14 @@ read-is t word n z ok is_word e read =
 abbrev pub rewritten : TensorValue → ℕ → ℤ → TensorValue
 rewritten t n z = record { extent = t.extent; coefficients = set t.coefficients n z }
 
+-- the word at whose place a number is written has this number
 pub rewritten-same : (t : TensorValue) (word : List ℕ) (n : ℕ) (z : ℤ) → IsTensor t → IsWord t.extent word → n ≡ place t.extent word → coefficient (rewritten t n z) word ≡ z
 unfolding coefficient
 rewritten-same t word n z ok is_word e =
     let here : n < length t.coefficients = omega (arith, e, place-within t word ok is_word) in
     rw (← e) (get_or-set_same t.coefficients n z (pos 0) here)
 
+-- any other word has the coefficient that it had
 pub rewritten-other : (t : TensorValue) (word other : List ℕ) (n : ℕ) (z : ℤ) → IsWord t.extent word → IsWord t.extent other → n ≡ place t.extent word → other ≢ word
     → coefficient (rewritten t n z) other ≡ coefficient t other
 unfolding coefficient
@@ -51,6 +55,7 @@ rewritten-other t word other n z is_word is_other e apart =
 abbrev pub one_and_zeros : ℕ → List ℤ
 one_and_zeros n = pos 1 ∷ replicate (n - 1) (pos 0)
 
+-- 1 and zeros, one number for each word, are the coefficients of a tensor
 pub unit-IsTensor : (t : TensorValue) (n : ℕ) → IsShape t.extent → 1 ≤ n → n ≡ shorter t.extent.width (suc t.extent.depth) → t.coefficients ≡ one_and_zeros n → IsTensor t
 unit-IsTensor t n shape some e items =
     let zeros : All (λ z. unsigned_abs z ≤ limit) (replicate (n - 1) (pos 0)) = All-replicate (λ z. unsigned_abs z ≤ limit) (n - 1) (pos 0) (omega arith) in
@@ -65,6 +70,7 @@ later : (n i : ℕ) → 1 ≤ i → i < suc n → get_or (pos 1 ∷ replicate n 
 later n zero some h = absurd (omega arith)
 later n (suc i) some h = get_or-replicate n i (pos 0) (pos 0) (omega arith)
 
+-- they are the coefficients of the series of 1
 pub unit-coefficient : (t : TensorValue) (n : ℕ) (word : List ℕ) → 1 ≤ n → n ≡ shorter t.extent.width (suc t.extent.depth) → t.coefficients ≡ one_and_zeros n → IsWord t.extent word → coefficient t word ≡ unit word
 unfolding coefficient
 unit-coefficient t n [] some e items is_word = rw items refl
@@ -82,6 +88,7 @@ level-is t word k from to is_word len ef et =
     let at : from + number t.extent.width word ≡ place t.extent word = omega (arith, ef, ap (shorter t.extent.width) len) in
     get_or-take (to - from) (drop from t.coefficients) (number t.extent.width word) (pos 0) below ∙ get_or-drop from t.coefficients (number t.extent.width word) (pos 0) ∙ ap (λ (n : ℕ). get_or t.coefficients n (pos 0)) at
 
+-- 1 and zeros with another 0 at the end are 1 and zeros, one number more
 pub one-more : (i : ℕ) (old new : List ℤ) → 1 ≤ i → old ≡ one_and_zeros i → new ≡ old ++ pos 0 ∷ [] → new ≡ one_and_zeros (i + 1)
 one-more i old new some e f =
     let next : i - 1 + 1 ≡ i + 1 - 1 = omega arith in

@@ -21,6 +21,7 @@ pub room-kept : (P : List ℕ → Type 0) (c : ℕ → ℤ) (t old now : TensorV
 room-kept P c t old now word progress is_word not_at room =
     subst (λ (z : ℤ). HasSumRoom z (c (length word)) (coefficient t word)) (sym (progress.others word is_word not_at)) room
 
+-- added at the words of k letters with numbers below n, and then at number n, it is added at those below n + 1
 pub below-step : (k n : ℕ) (c : ℕ → ℤ) (t old now new : TensorValue) (next : List ℕ) → IsAddedAt (IsBelow old.extent.width k n) c t old now
     → IsAddedAt (λ w. w ≡ next) c t now new → IsWord old.extent next → length next ≡ k → number old.extent.width next ≡ n → IsAddedAt (IsBelow old.extent.width k (n + 1)) c t old new
 below-step k n c t old now new next progress step is_next len num =
@@ -41,6 +42,7 @@ below-step k n c t old now new next progress step is_next len num =
           ∙ progress.others word is_word (λ at. not_at (at.0, omega (arith, at.1)));
     }
 
+-- where n is past all numbers of the words of k letters, it is added at all these words
 pub below-all : (k n : ℕ) (c : ℕ → ℤ) (t old now : TensorValue) → IsAddedAt (IsBelow old.extent.width k n) c t old now → old.extent.width ^ k ≤ n → IsAddedAt (λ w. length w ≡ k) c t old now
 below-all k n c t old now progress enough = record {
   same_extent = progress.same_extent;
@@ -52,6 +54,7 @@ below-all k n c t old now progress enough = record {
 abbrev pub IsBetween : ℕ → ℕ → List ℕ → Type 0
 IsBetween m k word = (m ≤ length word) × (length word < k)
 
+-- added at the words of m to k - 1 letters, and then at those of k, it is added at those of m to k letters
 pub level-step : (m k : ℕ) (c : ℕ → ℤ) (t old now new : TensorValue) → m ≤ k → IsAddedAt (IsBetween m k) c t old now
     → IsAddedAt (λ w. length w ≡ k) c t now new → IsAddedAt (IsBetween m (k + 1)) c t old new
 level-step m k c t old now new from progress step =
@@ -71,6 +74,7 @@ level-step m k c t old now new from progress step =
           step.others word is_now (λ same. not_at (omega arith, omega arith)) ∙ progress.others word is_word (λ at. not_at (at.0, omega (arith, at.1)));
     }
 
+-- where k is past the depth, it is added at all words of m or more letters
 pub levels-all : (m k : ℕ) (c : ℕ → ℤ) (t old now : TensorValue) → old.extent.depth < k → IsAddedAt (IsBetween m k) c t old now → IsAddedAt (λ w. m ≤ length w) c t old now
 levels-all m k c t old now deep progress = record {
   same_extent = progress.same_extent;

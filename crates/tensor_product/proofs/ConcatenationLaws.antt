@@ -11,6 +11,7 @@ use Rattle.scaled_tensor.specs.Tensors.{TensorValue, place, coefficient}
 use Rattle.tensor_product.specs.Concatenation.{plain_value, plain_sum, HasPlainRoom, IsWrittenBelow, IsWritten}
 use Rattle.tensor_product.proofs.MultiplyLaws.{rest}
 
+-- the sum over no cuts is 0
 pub plain_sum-none : (p : ℕ → ℤ) (b : List ℕ → ℤ) (word : List ℕ) → plain_sum p b word 0 ≡ pos 0
 unfolding plain_sum sum_below
 plain_sum-none p b word = refl
@@ -19,6 +20,7 @@ plain_sum-next : (p : ℕ → ℤ) (b : List ℕ → ℤ) (word : List ℕ) (n :
 unfolding plain_sum
 plain_sum-next p b word n = sum_below-next n (plain_value p b word)
 
+-- the coefficient of the first n letters times that of the others is what the cut after n letters adds
 pub plain_value-is : (p : ℕ → ℤ) (b : List ℕ → ℤ) (word : List ℕ) (n : ℕ) (x y : ℤ) → x ≡ p n → y ≡ b (take (length word - n) (drop n word)) → x *ℤ y ≡ plain_value p b word n
 plain_value-is p b word n x y ex ey = ap₂ ◌*ℤ◌ ex (ey ∙ ap b (rest n word))
 
@@ -32,10 +34,12 @@ unfolding plain_sum
 plain_sum-same p q b word n h same =
     sum_below-same n (plain_value p b word) (plain_value q b word) (λ i l. ap (λ (z : ℤ). z *ℤ b (drop i word)) (same i (omega arith)))
 
+-- the sum over all cuts is the product by concatenation
 pub plain_sum-all : (a b : List ℕ → ℤ) (word : List ℕ) → plain_sum (λ i. a (take i word)) b word (suc (length word)) ≡ plain_product a b word
 unfolding plain_sum plain_product
 plain_sum-all a b word = refl
 
+-- prefixes with the same coefficients leave the same room
 pub HasPlainRoom-same : (p q : ℕ → ℤ) (b : List ℕ → ℤ) (word : List ℕ) → ((i : ℕ) → i ≤ length word → p i ≡ q i) → HasPlainRoom p b word → HasPlainRoom q b word
 HasPlainRoom-same p q b word same room = record {
   joined = λ i h. subst (λ (z : ℤ). unsigned_abs (z *ℤ b (drop i word)) ≤ limit) (same i h) (room.joined i h);
@@ -57,6 +61,7 @@ written-step n m extent series now new next below is_next at em same written oth
       ];
 }
 
+-- a series that is written at all places is written at each word
 pub written-all : (n : ℕ) (extent : Extent) (series : List ℕ → ℤ) (t : TensorValue) → IsWrittenBelow n extent series t → n ≡ shorter extent.width (suc extent.depth) → IsWritten extent series t
 written-all n extent series t below e = record {
   same_extent = below.same_extent;

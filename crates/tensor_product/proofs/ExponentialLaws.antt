@@ -18,12 +18,15 @@ use Rattle.tensor_product.proofs.ExtendLaws.{word-take}
 use Rattle.tensor_product.proofs.MultiplyLaws.{word-drop}
 use Rattle.tensor_product.proofs.SigLaws.{empty-word}
 
+-- the fronts and rests of a word of an extent are words of it
 pub words-closed : (extent : Extent) → IsClosed (IsWord extent)
 words-closed extent = record { front = word-take extent; back = word-drop extent }
 
+-- a tensor within its sizes is sized by the roots of these, which add up to the weight
 pub tensor-IsSized : (z : TensorValue) (sizes : List ℕ) → HasSizes z sizes → IsSized (IsWord z.extent) z.extent.depth (root_at z.extent.depth 1 sizes) (weight_from z.extent.depth 1 sizes) (coefficient z)
 tensor-IsSized z sizes has = sizes-IsSized (IsWord z.extent) z.extent.depth sizes (coefficient z) (words-closed z.extent) has.starts has.within
 
+-- the exponential of a tensor within its sizes is a signature, if the power of its weight is within the limit
 pub exponential-IsSig : (z : TensorValue) (sizes : List ℕ) (s : SigValue) → HasSizes z sizes → IsExponentialOf z sizes s → s.weight ^ s.tensor.extent.depth ≤ limit → IsSig s
 exponential-IsSig z sizes s has is fits = record {
   fits = fits;

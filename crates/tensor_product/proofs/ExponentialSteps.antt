@@ -25,6 +25,7 @@ use Rattle.tensor_product.proofs.SigLaws.{pow-within}
 use Rattle.tensor_product.proofs.ExponentialLaws.{tensor-IsSized}
 
 -- ---- powers
+-- the product of the tensor with its power m - 1 is its power m
 pub next-written : (z p next : TensorValue) (m : ℕ) → 1 ≤ m → IsWritten z.extent (plain_power (coefficient z) (m - 1)) p
     → IsWritten z.extent (plain_product (coefficient z) (coefficient p)) next → IsWritten z.extent (plain_power (coefficient z) m) next
 unfolding plain_product
@@ -59,6 +60,7 @@ first-term : (s : List ℕ → ℤ) (word : List ℕ) → exp_term s word 0 ≡ 
 first-term s [] = refl
 first-term s (a ∷ word) = *ℤ-zero (exp_factor 0 (length (a ∷ word)))
 
+-- the sum over the power 0 alone is the series of 1
 pub sum-start : (s : List ℕ → ℤ) (word : List ℕ) → unit word ≡ partial_exponential s 0 word
 unfolding partial_exponential sum_below
 sum-start s word = omega (arith, ints, first-term s word)
@@ -67,6 +69,7 @@ partial-next : (s : List ℕ → ℤ) (n : ℕ) (word : List ℕ) → partial_ex
 unfolding partial_exponential
 partial-next s n word = sum_below-next (suc n) (exp_term s word)
 
+-- the m-th power, added to the sum over those before, gives the sum over the powers 0 to m
 pub power-added : (z p sum new : TensorValue) (m : ℕ) → 1 ≤ m → coefficient z [] ≡ pos 0 → IsWritten z.extent (plain_power (coefficient z) m) p → IsWritten z.extent (partial_exponential (coefficient z) (m - 1)) sum
     → IsAddedAt (λ w. m ≤ length w) (exp_factor m) p sum new → IsWritten z.extent (partial_exponential (coefficient z) m) new
 power-added z p sum new zero some starts is_p is_sum step = absurd (omega arith)
@@ -88,6 +91,7 @@ power-added z p sum new (suc n) some starts is_p is_sum step =
           ];
     }
 
+-- no step on the way to this sum leaves the limit
 pub adding-room : (z p sum : TensorValue) (m : ℕ) → 1 ≤ m → HasPowerRoom z → IsWritten z.extent (plain_power (coefficient z) m) p → IsWritten z.extent (partial_exponential (coefficient z) (m - 1)) sum
     → (word : List ℕ) → IsWord sum.extent word → m ≤ length word → HasSumRoom (coefficient sum word) (exp_factor m (length word)) (coefficient p word)
 adding-room z p sum m some room is_p is_sum word is_sum_word long =
@@ -134,6 +138,7 @@ cut-count z sizes m (x ∷ word) (suc n) has some is h =
       cuts-bound (IsWord z.extent) z.extent.depth (root_at z.extent.depth 1 sizes) r s (tensor-IsSized z sizes has) some m x word is,
     )
 
+-- if the power of the weight is within the limit, no power and no sum on the way leaves it
 pub room-by-weight : (z : TensorValue) (sizes : List ℕ) → HasSizes z sizes → 1 ≤ z.extent.depth → weight_from z.extent.depth 1 sizes ^ z.extent.depth ≤ limit → HasPowerRoom z
 unfolding plain_sum partial_exponential
 room-by-weight z sizes has some fits =

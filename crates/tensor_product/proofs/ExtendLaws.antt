@@ -13,6 +13,7 @@ use Rattle.definitions.proofs.ProductLaws.{scaled_product-same, scaled_product-u
 use Rattle.scaled_tensor.specs.Tensors.{TensorValue, coefficient}
 use Rattle.tensor_product.specs.Extension.{ExtendsAt, IsExtendedBy}
 
+-- the first n letters of a word of an extent are a word of it
 pub word-take : (extent : Extent) (n : ℕ) (word : List ℕ) → IsWord extent word → IsWord extent (take n word)
 word-take extent n word h = record {
   short = omega (arith, h.short, length-take n word);
@@ -34,6 +35,7 @@ along-still x [] still = refl
 along-still x (a ∷ word) still =
     omega (arith, ints, along-bound x (a ∷ word), ap (λ (m : ℕ). m ^ suc (length word)) still, pow-suc 0 (length word))
 
+-- a step whose entries are all 0 leaves the tensor as it is
 pub still : (x : List ℤ) (t : TensorValue) → greatest x ≡ 0 → IsExtendedBy x t t
 still x t none = record {
   same_extent = refl;
@@ -51,6 +53,7 @@ pub shorter-kept : (k : ℕ) (x : List ℤ) (old now : TensorValue) (word : List
 shorter-kept k x old now word progress is_word h i l =
     progress.others (take i word) (word-take old.extent i word is_word) (λ at. omega (arith, length-take i word))
 
+-- extended at the words of more than k letters, and then at those of k, it is extended at those of k or more
 pub longer-step : (k j : ℕ) (x : List ℤ) (old now new : TensorValue) → suc j ≡ k → ExtendsAt (λ w. k < length w) x old now → ExtendsAt (λ w. length w ≡ k) x now new → ExtendsAt (λ w. j < length w) x old new
 longer-step k j x old now new ej progress step =
     let moved : now.extent ≡ old.extent = progress.same_extent in

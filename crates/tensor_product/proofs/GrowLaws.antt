@@ -5,7 +5,9 @@ use Rattle.std.proofs.lemmas.Bool.{cases_lt}
 
 -- n numbers from a place on are those of a function, and the others are as they were
 pub record IsWritten (at n : ℕ) (f : ℕ → ℤ) (old now : List ℤ) : Type 0 where
+  -- the n numbers from the place on are those of the function
   pub run : (i : ℕ) → i < n → get_or now (at + i) (pos 0) ≡ f i
+  -- the numbers before these and after them are as they were
   pub others : (i : ℕ) → (i < at) ⊎ (at + n ≤ i) → get_or now i (pos 0) ≡ get_or old i (pos 0)
 
 -- one sum more of the run
@@ -30,8 +32,11 @@ grown sums x ways level q a = get_or sums q (pos 0) *ℤ get_or x a (pos 0) +ℤ
 
 -- the prefixes from number q on are done, and the sums of the others are as they were
 pub record IsGrown (q at count ways : ℕ) (x level old now : List ℤ) : Type 0 where
+  -- at is the place of the sums that come from prefix q
   pub at_is : at ≡ q * length x
+  -- the sums of the prefixes below q are as they were
   pub rest : (i : ℕ) → i < q → get_or now i (pos 0) ≡ get_or old i (pos 0)
+  -- each prefix from q on has its sum for each next letter
   pub run : (i a : ℕ) → q ≤ i → i < count → a < length x → get_or now (i * length x + a) (pos 0) ≡ grown old x ways level i a
 
 -- the sums that come from one sum more

@@ -25,8 +25,11 @@ use Rattle.tensor_product.proofs.MultiplyLaws.{word-drop, suffixes-bounded, cut_
 
 -- the cuts after fewer than n letters are added at the words of k letters
 pub record IsJoinedBelow (k n : ℕ) (b old now : TensorValue) : Type 0 where
+  -- the extent stays the same
   pub same_extent : now.extent ≡ old.extent
+  -- to each word of k letters these cuts are added
   pub added : (word : List ℕ) → IsWord old.extent word → length word ≡ k → coefficient now word ≡ coefficient old word +ℤ cut_sum (prefixes_of old word) (coefficient b) word n
+  -- each word of another length has what it had
   pub others : (word : List ℕ) → IsWord old.extent word → length word ≢ k → coefficient now word ≡ coefficient old word
 
 -- before the first cut nothing is added
@@ -66,8 +69,11 @@ scale-room most k n cut ways b old now level some deep here ew progress len valu
 
 -- nor is the binomial, a coefficient of a prefix or one of a suffix greater than the bound
 pub record AreWithin (most : ℕ) (ways : ℕ) (level right : List ℤ) : Type 0 where
+  -- the binomial is at most the bound
   pub ways_in : ways ≤ most
+  -- so is each coefficient of a prefix
   pub level_in : (i : ℕ) → i < length level → unsigned_abs (get_or level i (pos 0)) ≤ most
+  -- so is each coefficient of a suffix
   pub right_in : (r : ℕ) → r < length right → unsigned_abs (get_or right r (pos 0)) ≤ most
 
 -- the binomial of a cut and the coefficients of its parts are those of some word
@@ -112,6 +118,7 @@ all-within most k n cut ways b old now level right some deep here ew same progre
 
 -- a level times a number
 pub record AreScaled (old : TensorValue) (cut ways : ℕ) (left : List ℤ) : Type 0 where
+  -- each word of the cut's length has the number times its coefficient
   pub scaled : (u : List ℕ) → IsWord old.extent u → length u ≡ cut → get_or left (number old.extent.width u) (pos 0) ≡ pos ways *ℤ coefficient old u
 
 -- the multiples that are written stand for the prefixes

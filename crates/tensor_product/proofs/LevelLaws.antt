@@ -21,7 +21,9 @@ use Rattle.definitions.proofs.ProductBounds.{term-bound, sum-bound}
 
 -- the number of a prefix from that of the one before and the next letter
 pub record IsPushed (width j : ℕ) (word : List ℕ) : Type 0 where
+  -- it is the number before times the width, plus the place of the letter
   pub number_is : number width (take (suc j) word) ≡ number width (take j word) * width + (get_or word j 0 - 1)
+  -- the place of this letter is below the width
   pub letter : get_or word j 0 - 1 < width
 
 -- a word of one letter more
@@ -36,14 +38,20 @@ pushed width j word letters here =
 
 -- the sums of the prefixes of j letters, by their numbers
 pub record AreSums (t : TensorValue) (x : List ℤ) (k j : ℕ) (sums : List ℤ) : Type 0 where
+  -- at the number of the first j letters of each word of k stands the partial sum of these j
   pub sums_are : (word : List ℕ) → IsWord t.extent word → length word ≡ k → get_or sums (number t.extent.width (take j word)) (pos 0) ≡ partial_sum (prefixes_of t word) x word j
 
 -- a word of k letters whose first j have the number q, and whose next letter is the one of place a
 pub record IsPrefixed (t : TensorValue) (k j q a : ℕ) (word : List ℕ) : Type 0 where
+  -- it is a word of the tensor's extent
   pub is_word : IsWord t.extent word
+  -- it has k letters
   pub len : length word ≡ k
+  -- the first j have the number q
   pub head : number t.extent.width (take j word) ≡ q
+  -- the next one has the place a
   pub next : get_or word j 0 - 1 ≡ a
+  -- the first j + 1 have the number q times the width, and a
   pub longer : number t.extent.width (take (suc j) word) ≡ q * t.extent.width + a
 
 -- the word whose prefix has one number and whose next letter another one
@@ -68,7 +76,9 @@ some-word t k j q a some deep here hq ha =
 
 -- what the level of the tensor with one letter more has
 pub record IsLevel (t : TensorValue) (j : ℕ) (level : List ℤ) : Type 0 where
+  -- it has a number for each word of j letters
   pub len : length level ≡ t.extent.width ^ j
+  -- this is the coefficient of the word
   pub values : (word : List ℕ) → IsWord t.extent word → length word ≡ j → get_or level (number t.extent.width word) (pos 0) ≡ coefficient t word
 
 -- what a level has at a prefix
@@ -96,11 +106,17 @@ sums-within most t k j count x sums some deep here ec are room q hq =
 
 -- no number on the way is greater than the bound
 pub record HasGrowRoom (most : ℕ) (t : TensorValue) (count ways : ℕ) (x sums level : List ℤ) : Type 0 where
+  -- the binomial is at most the bound
   pub ways_in : ways ≤ most
+  -- so is each sum
   pub sums_in : (q : ℕ) → q < count → unsigned_abs (get_or sums q (pos 0)) ≤ most
+  -- so is each coefficient of a prefix of one letter more
   pub prefixes : (q a : ℕ) → q < count → a < length x → unsigned_abs (get_or level (q * length x + a) (pos 0)) ≤ most
+  -- so is each sum times an entry
   pub grown : (q a : ℕ) → q < count → a < length x → unsigned_abs (get_or sums q (pos 0) *ℤ get_or x a (pos 0)) ≤ most
+  -- so is the binomial times each of these coefficients
   pub added : (q a : ℕ) → q < count → a < length x → unsigned_abs (pos ways *ℤ get_or level (q * length x + a) (pos 0)) ≤ most
+  -- so is each sum of these two products
   pub summed : (q a : ℕ) → q < count → a < length x → unsigned_abs (get_or sums q (pos 0) *ℤ get_or x a (pos 0) +ℤ pos ways *ℤ get_or level (q * length x + a) (pos 0)) ≤ most
 
 -- no number on the way to the sums of one letter more is greater than the bound

@@ -20,12 +20,14 @@ use Rattle.tensor_product.specs.Multiplication.{cut_value, cut_sum, IsProduct}
 use Rattle.tensor_product.proofs.ExtendLaws.{word-take}
 use Rattle.tensor_product.proofs.SigLaws.{empty-word, prefixes-bounded}
 
+-- the letters after the first n of a word of an extent are a word of it
 pub word-drop : (extent : Extent) (n : ℕ) (word : List ℕ) → IsWord extent word → IsWord extent (drop n word)
 word-drop extent n word h = record {
   short = omega (arith, h.short, length-drop n word);
   letters = All-drop (IsLetter extent.width) n word h.letters;
 }
 
+-- the sum over no cuts is 0
 pub cut_sum-none : (p : ℕ → ℤ) (b : List ℕ → ℤ) (word : List ℕ) → cut_sum p b word 0 ≡ pos 0
 unfolding cut_sum sum_below
 cut_sum-none p b word = refl
@@ -48,10 +50,12 @@ unfolding cut_sum
 cut_sum-same p q b word n h same =
     sum_below-same n (cut_value p b word) (cut_value q b word) (λ i l. ap (λ (z : ℤ). pos (binom (length word) i) *ℤ (z *ℤ b (drop i word))) (same i (omega arith)))
 
+-- the sum over all cuts is the scaled product
 pub cut_sum-all : (a b : List ℕ → ℤ) (word : List ℕ) → cut_sum (λ i. a (take i word)) b word (suc (length word)) ≡ scaled_product a b word
 unfolding cut_sum scaled_product product_term
 cut_sum-all a b word = refl
 
+-- there is at least one way to pick k of n things, where k is at most n
 pub some-ways : (n k : ℕ) → k ≤ n → 1 ≤ binom n k
 some-ways n zero h = omega arith
 some-ways zero (suc k) h = absurd (omega arith)
@@ -61,11 +65,13 @@ some-ways (suc n) (suc k) h = omega (arith, some-ways n k (omega arith))
 pub multiple : (n : ℕ) (z : ℤ) → 1 ≤ n → unsigned_abs z ≤ unsigned_abs (pos n *ℤ z)
 multiple n z some = omega (arith, unsigned_abs-mul (pos n) z, mul-le-mul_right (unsigned_abs z) some)
 
+-- the suffixes of a word are bounded by their lengths
 pub suffixes-bounded : (t : TensorValue) (v : ℕ) (word : List ℕ) → IsBoundedBy t v → IsWord t.extent word
     → (i : ℕ) → i ≤ length word → unsigned_abs (coefficient t (drop i word)) ≤ v ^ (length word - i)
 suffixes-bounded t v word bounds is_word i h =
     subst (λ (n : ℕ). unsigned_abs (coefficient t (drop i word)) ≤ v ^ n) (length-drop i word) (bounds.bounded (drop i word) (word-drop t.extent i word is_word))
 
+-- the prefixes of a word in one signature and its suffixes in another are bounded by the powers of the weights
 pub factors-of : (a b : SigValue) (word : List ℕ) → IsSig a → IsSig b → b.tensor.extent ≡ a.tensor.extent → IsWord a.tensor.extent word
     → AreFactors a.weight b.weight (length word) (prefixes_of a.tensor word) (λ i. coefficient b.tensor (drop i word))
 factors-of a b word ok_a ok_b same is_word = record {
@@ -73,10 +79,12 @@ factors-of a b word ok_a ok_b same is_word = record {
   right = suffixes-bounded b.tensor b.weight word ok_b.bounded (subst (λ (e : Extent). IsWord e word) (sym same) is_word);
 }
 
-product-starts : (a b : List ℕ → ℤ) → a [] ≡ pos 1 → b [] ≡ pos 1 → scaled_product a b [] ≡ pos 1
+-- a product of series that are 1 at the empty word is 1 there
+pub product-starts : (a b : List ℕ → ℤ) → a [] ≡ pos 1 → b [] ≡ pos 1 → scaled_product a b [] ≡ pos 1
 unfolding scaled_product product_term sum_below
 product-starts a b ea eb = ap₂ (λ (x y : ℤ). pos 0 +ℤ pos 1 *ℤ (x *ℤ y)) ea eb
 
+-- the product of two signatures is a signature, if the power of the sum of their weights is within the limit
 pub product-IsSig : (a b : SigValue) (t : TensorValue) (v : ℕ) → IsSig a → IsSig b → b.tensor.extent ≡ a.tensor.extent → IsProduct a.tensor b.tensor t → v ≡ a.weight + b.weight
     → v ^ a.tensor.extent.depth ≤ limit → IsSig (record { tensor = t; weight = v })
 product-IsSig a b t v ok_a ok_b same made ev fits = record {
@@ -92,6 +100,7 @@ product-IsSig a b t v ok_a ok_b same made ev fits = record {
   };
 }
 
+-- it stands for the moves of the first, then those of the second
 pub product-stands : (a b : SigValue) (t : TensorValue) (v : ℕ) (A B : List Parts) → b.tensor.extent ≡ a.tensor.extent → IsProduct a.tensor b.tensor t → v ≡ a.weight + b.weight
     → StandsFor a A → StandsFor b B → StandsFor (record { tensor = t; weight = v }) (A ++ B)
 product-stands a b t v A B same made ev first second = record {

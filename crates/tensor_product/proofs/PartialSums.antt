@@ -34,6 +34,7 @@ term-longer p x word j i here h =
     ∙ ap (λ (z : ℤ). pos (binom (length word) i) *ℤ z) (sym (mul_assoc_ℤ (p i) (along x (drop i (take j word))) e))
     ∙ sym (mul_assoc_ℤ (pos (binom (length word) i)) (p i *ℤ along x (drop i (take j word))) e)
 
+-- the cut after all j letters adds the binomial times the coefficient of the prefix
 pub term-last : (p : ℕ → ℤ) (x : List ℤ) (word : List ℕ) (j : ℕ) → j ≤ length word → term p x word j j ≡ pos (binom (length word) j) *ℤ p j
 term-last p x word j h =
     let none : drop j (take j word) ≡ [] = drop_all j (take j word) (omega (arith, length-take j word)) in
@@ -60,15 +61,18 @@ partial_sum-next p x word j sum entry prefix ways here es ee ew ep =
     ap₂ (λ (n : ℕ) (z : ℤ). pos n *ℤ z) (ew ∙ ap (binom (length word)) (add-one j)) (ep ∙ ap p (add-one j)) ∙ sym (term-last p x word (suc j) here) in
     ap₂ ◌+ℤ◌ grown added ∙ sym (last-apart p x word j) ∙ ap (partial_sum p x word) (sym (add-one j))
 
+-- the sum for no letters is the coefficient of the empty prefix
 pub partial_sum-none : (p : ℕ → ℤ) (x : List ℤ) (word : List ℕ) → partial_sum p x word 0 ≡ p 0
 unfolding partial_sum sum_below
 partial_sum-none p x word = omega (arith, ints)
 
+-- the sum for all letters is the product by the step
 pub partial_sum-all : (a : List ℕ → ℤ) (x : List ℤ) (word : List ℕ) → partial_sum (λ i. a (take i word)) x word (length word) ≡ scaled_product a (along x) word
 unfolding partial_sum scaled_product product_term
 partial_sum-all a x word =
     ap (λ (u : List ℕ). sum_below (suc (length word)) (λ i. pos (binom (length word) i) *ℤ (a (take i word) *ℤ along x (drop i u)))) (take_all (length word) word (omega arith))
 
+-- the sum depends on the coefficients of the prefixes alone
 pub partial_sum-same : (p q : ℕ → ℤ) (x : List ℤ) (word : List ℕ) (j : ℕ) → ((i : ℕ) → i ≤ j → p i ≡ q i) → partial_sum p x word j ≡ partial_sum q x word j
 unfolding partial_sum
 partial_sum-same p q x word j same =

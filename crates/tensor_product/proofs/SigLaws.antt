@@ -31,9 +31,11 @@ fits-flat v depth fits k h =
     let here : k < depth = omega (arith, length-replicate {A = ℕ} depth 1) in
     omega (arith, pow-within v (k + 1) depth limit (omega arith) (omega arith) fits, ap (λ (f : ℕ). v ^ (k + 1) * f) (get_or-replicate depth k 1 0 here))
 
+-- the empty word is one of each extent
 pub empty-word : (extent : Extent) → IsWord extent []
 empty-word extent = record { short = omega arith; letters = All-nil (IsLetter extent.width) }
 
+-- the series of 1, with the weight 0, stands for no moves
 pub unit-stands : (t : TensorValue) → ((word : List ℕ) → IsWord t.extent word → coefficient t word ≡ unit word) → StandsFor (record { tensor = t; weight = 0 }) []
 unit-stands t is_unit = record {
   weighs = omega arith;
@@ -54,6 +56,7 @@ prefixes-bounded t v word bounds is_word i h =
     let at : length (take i word) ≡ i = omega (arith, length-take i word) in
     subst (λ (n : ℕ). unsigned_abs (coefficient t (take i word)) ≤ v ^ n) at (bounds.bounded (take i word) (word-take t.extent i word is_word))
 
+-- a signature that is extended by a step stays one, if the power of its new weight is within the limit
 pub extended-IsSig : (s : SigValue) (x : List ℤ) (new : TensorValue) (v : ℕ) → IsSig s → IsExtendedBy x s.tensor new → v ≡ s.weight + greatest x → v ^ new.extent.depth ≤ limit
     → IsSig (record { tensor = new; weight = v })
 extended-IsSig s x new v ok extended ev fits = record {
@@ -74,6 +77,7 @@ extended-IsSig s x new v ok extended ev fits = record {
   };
 }
 
+-- it stands for one plain move more
 pub extended-stands : (s : SigValue) (depth : ℕ) (x : List ℤ) (new : TensorValue) (v : ℕ) (moves : List Parts) → IsExtendedBy x s.tensor new → v ≡ s.weight + greatest x → StandsFor s moves
     → StandsFor (record { tensor = new; weight = v }) (moves ++ plain depth x ∷ [])
 extended-stands s depth x new v moves extended ev stands = record {

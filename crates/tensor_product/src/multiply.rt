@@ -90,7 +90,7 @@ fn join_in_scratch(a: &mut Tensor, b: &Tensor, narrow: u32)
 
 /// Multiplies a tensor by another one of its shape, in place, where both are bounded by weights: in
 /// 64 bits where these do. Nothing is multiplied by the unit, which is the one of weight 0.
-pub(crate) fn join_bounded(a: &mut Tensor, b: &Tensor, bound: u128, weight: u128)
+pub fn join_bounded(a: &mut Tensor, b: &Tensor, bound: u128, weight: u128)
     requires shape { IsShape a.old.extent }
     requires same { b.now.extent ≡ a.old.extent }
     requires begins { coefficient a.old [] ≡ pos 1 }

@@ -24,10 +24,15 @@ twice false v w = refl
 
 -- the label of a new fork
 pub record IsOver (l : Label) (half k v : ℕ) (x y : Label) : Type 0 where
+  -- its keys agree but for their last half + 1 digits
   pub height : l.height ≡ suc half
+  -- its key is k
   pub key : l.key ≡ k
+  -- its version is v
   pub version : l.version ≡ v
+  -- it counts the rows of both halves
   pub counted : l.count ≡ x.count + y.count
+  -- it weighs as much as both halves
   pub weighed : l.weight ≡ x.weight + y.weight
 
 module _ (k v half : ℕ) (new old : List RowValue) (before : ℕ → ℕ → ℕ) (l : Label) (u other : Trie) (changed : IsChanged k v new old before u) (is : IsTrie other)
@@ -55,6 +60,7 @@ module _ (k v half : ℕ) (new old : List RowValue) (before : ℕ → ℕ → �
           weighed = over.weighed;
         }
 
+    -- the fork over the changed half and then the other one has the same change among the rows of both
     pub lower-changed : IsChanged k v new (old ++ rows_of other) (λ a b. max (before a b) (last_in a b other)) (Fork l u other)
     unfolding IsTrie
     lower-changed = record {
@@ -86,6 +92,7 @@ module _ (k v half : ℕ) (new old : List RowValue) (before : ℕ → ℕ → �
           weighed = over.weighed;
         }
 
+    -- the fork over the other half and then the changed one has the same change among the rows of both
     pub higher-changed : IsChanged k v new (rows_of other ++ old) (λ a b. max (last_in a b other) (before a b)) (Fork l other u)
     unfolding IsTrie
     higher-changed = record {
@@ -101,10 +108,15 @@ module _ (k v half : ℕ) (new old : List RowValue) (before : ℕ → ℕ → �
     }
 
 -- ---- a tree of one key
+-- the tree of the one key k, with the version v
 pub record IsTipTrie (k v : ℕ) (t : Trie) : Type 0 where
+  -- each label is that of what is below it
   pub is : IsTrie t
+  -- its height is 0, so that it has one key
   pub lowest : (label_of t).height ≡ 0
+  -- this key is k
   pub key : (label_of t).key ≡ k
+  -- its version is v
   pub version : (label_of t).version ≡ v
 
 -- in place of none
@@ -124,6 +136,7 @@ unfolding IsTrie
 tip-rows k w new (Leaf l rows) tip = sym (with_at-same k (λ (row : RowValue). key_of row ≡ l.key) rows tip.is.keyed (λ row e. e ∙ tip.key) new)
 tip-rows k w new (Fork l x y) tip = absurd (omega (arith, tip.lowest, tip.is.0.higher))
 
+-- in a tree of one key, the last version that touched [a, b) is its own where the key lies there, else 0
 pub tip-last : (a b k w : ℕ) (t : Trie) → IsTipTrie k w t → last_in a b t ≡ cond (lies_in a b k) w 0
 unfolding IsTrie
 tip-last a b k w (Leaf l rows) tip = ap (λ (n : ℕ). cond (lies_in a b n) l.version 0) tip.key ∙ ap (λ (n : ℕ). cond (lies_in a b k) n 0) tip.version
@@ -140,6 +153,7 @@ tip-changed k v w t u old tip = record {
 }
 
 -- ---- the same change
+-- a change among rows, with what had touched them, is one among the same rows, touched by the same versions
 pub changed-same : (k v : ℕ) (new xs ys : List RowValue) (f g : ℕ → ℕ → ℕ) (t : Trie) → xs ≡ ys → ((a b : ℕ) → f a b ≡ g a b) → IsChanged k v new xs f t → IsChanged k v new ys g t
 changed-same k v new xs ys f g t e same changed = record {
   is = changed.is;

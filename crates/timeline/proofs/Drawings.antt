@@ -15,6 +15,7 @@ some-test : (n m : ℕ) → n ≡ suc m → nat_eq n 0 ≡ false
 some-test n m h = grind (arith, nat_tests)
 
 -- ---- the tree that is drawn
+-- a tree of height n at most that a tree node draws is the tree below this node, followed for at most n forks
 pub trie_below-is : (store : Store) (i n : ℕ) (t : Trie) → Draws store i t → IsTrie t → (label_of t).height ≤ n → trie_below store n i ≡ t
 unfolding Draws IsTrie trie_below
 trie_below-is store i zero (Leaf l rows) d is low =
@@ -34,15 +35,18 @@ trie_below-is store i (suc n) (Fork l x y) d is low =
     ∙ ap (λ (t : Trie). Fork l t (trie_below store n (span_at store i).right)) (trie_below-is store (span_at store i).left n x d.1 is.1 (omega (arith, f.higher, f.first_low, low)))
     ∙ ap (λ (t : Trie). Fork l x t) (trie_below-is store (span_at store i).right n y d.2 is.2 (omega (arith, f.higher, f.second_low, low)))
 
+-- a tree of height 63 at most that a tree node draws is the tree of this node
 pub trie-is : (store : Store) (i : ℕ) (t : Trie) → Draws store i t → IsTrie t → (label_of t).height ≤ 63 → trie store i ≡ t
 unfolding trie
 trie-is store i t d is low = trie_below-is store i 63 t d is low
 
+-- a tree node that draws a tree is there, with the label of the tree's root
 pub labelled : (store : Store) (i : ℕ) (t : Trie) → Draws store i t → IsLabelled store i (label_of t)
 unfolding Draws
 labelled store i (Leaf l rows) d = d.0
 labelled store i (Fork l x y) d = d.0
 
+-- a tree node that draws a tree of height 63 at most is the root of its tree
 pub drawn-stands : (store : Store) (i : ℕ) (t : Trie) → Draws store i t → IsTrie t → (label_of t).height ≤ 63 → Stands store i
 drawn-stands store i t d is low =
     let e : trie store i ≡ t = trie-is store i t d is low in
@@ -53,23 +57,33 @@ drawn-stands store i t d is low =
     }
 
 -- ---- what stands
+-- the tree of a root has the label that is written at the tree node
 pub stands-label : (store : Store) (i : ℕ) → Stands store i → label_of (trie store i) ≡ label_at store i
 stands-label store i s = (labelled store i (trie store i) s.drawn).label
 
+-- the root of a tree is one of the tree nodes of the store
 pub stands-within : (store : Store) (i : ℕ) → Stands store i → i < length store.spans
 stands-within store i s = (labelled store i (trie store i) s.drawn).within
 
+-- its edit is one of those of the store
 pub stands-made : (store : Store) (i : ℕ) → Stands store i → (span_at store i).edit < length store.keys
 stands-made store i s = (labelled store i (trie store i) s.drawn).made
 
 -- a tree node with halves
 pub record HasHalves (store : Store) (i : ℕ) : Type 0 where
+  -- how many digits follow the one at which the keys of the halves part
   pub half : ℕ
+  -- the height of the tree node is one more
   pub higher : (span_at store i).height ≡ suc half
+  -- the height of the left half is at most this number
   pub first_low : (span_at store (span_at store i).left).height ≤ half
+  -- so is that of the right one
   pub second_low : (span_at store (span_at store i).right).height ≤ half
+  -- the left half is the root of its tree
   pub left : Stands store (span_at store i).left
+  -- so is the right one
   pub right : Stands store (span_at store i).right
+  -- the tree is the fork over those of the halves
   pub tree : trie store i ≡ Fork (label_at store i) (trie store (span_at store i).left) (trie store (span_at store i).right)
 
 has-halves-of : (store : Store) (i : ℕ) (t : Trie) → trie store i ≡ t → Draws store i t → IsTrie t → (span_at store i).height ≤ 63 → ((span_at store i).height ≡ 0 → ⊥) → HasHalves store i
@@ -92,13 +106,17 @@ has-halves-of store i (Fork l x y) e d is low some =
           ∙ ap (λ (t : Trie). Fork (label_at store i) (trie store (span_at store i).left) t) (sym (trie-is store (span_at store i).right y d.2 is.2 right-low));
     }
 
+-- a root of a tree whose height isn't 0 has halves
 pub has-halves : (store : Store) (i : ℕ) → Stands store i → ((span_at store i).height ≡ 0 → ⊥) → HasHalves store i
 has-halves store i s some = has-halves-of store i (trie store i) refl s.drawn s.is s.low some
 
 -- a tree node of one key
 pub record HasTip (store : Store) (i : ℕ) : Type 0 where
+  -- its tree is a leaf with its rows
   pub tree : trie store i ≡ Leaf (label_at store i) (tip_rows store i)
+  -- it counts its rows
   pub counted : (span_at store i).count ≡ length (tip_rows store i)
+  -- if it counts any, its row is there
   pub row_within : 0 < (span_at store i).count → (span_at store i).right < length store.rows
 
 has-tip-of : (store : Store) (i : ℕ) (t : Trie) → trie store i ≡ t → Draws store i t → IsTrie t → (span_at store i).height ≡ 0 → HasTip store i
@@ -110,6 +128,7 @@ has-tip-of store i (Leaf l rows) e d is none = record {
 }
 has-tip-of store i (Fork l x y) e d is none = absurd (omega (arith, ap (λ (m : Label). m.height) d.0.label, is.0.higher, none))
 
+-- a root of a tree whose height is 0 is a tree node of one key
 pub has-tip : (store : Store) (i : ℕ) → Stands store i → (span_at store i).height ≡ 0 → HasTip store i
 has-tip store i s none = has-tip-of store i (trie store i) refl s.drawn s.is none
 
@@ -146,6 +165,7 @@ module _ (a b : Store) (g : Grows a b) where
             ∙ take-one (span_at a i).count (row_at a (span_at a i).right) (row_at b (span_at a i).right) (λ some. g.rows.same (span_at a i).right (is.within some)));
       }
 
+  -- a tree node still draws the tree that it drew
   pub draws-kept : (i : ℕ) (t : Trie) → Draws a i t → Draws b i t
   unfolding Draws
   draws-kept i (Leaf l rows) d = (labelled-kept i l d.0, tip-kept i rows d.0.within d.1)
@@ -159,11 +179,14 @@ module _ (a b : Store) (g : Grows a b) where
   low-label : (i : ℕ) → Stands a i → (label_of (trie a i)).height ≤ 63
   low-label i s = omega (arith, ap (λ (m : Label). m.height) (stands-label a i s), s.low)
 
+  -- the root of a tree stays one
   pub stands-kept : (i : ℕ) → Stands a i → Stands b i
   stands-kept i s = drawn-stands b i (trie a i) (draws-kept i (trie a i) s.drawn) s.is (low-label i s)
 
+  -- its tree stays the same
   pub trie-kept : (i : ℕ) → Stands a i → trie b i ≡ trie a i
   trie-kept i s = trie-is b i (trie a i) (draws-kept i (trie a i) s.drawn) s.is (low-label i s)
 
+  -- so does the tree node itself
   pub span-kept : (i : ℕ) → Stands a i → span_at b i ≡ span_at a i
   span-kept i s = g.spans.same i (stands-within a i s)

@@ -66,6 +66,7 @@ later row r rows young older before order =
     All-cons (Higher (key_of row)) r rows (higher-tick row r young before) rest
 
 -- ---- a new row
+-- among rows in order, a row that is younger than all of them goes where its key is
 pub appended-at : (row : RowValue) (rows : List RowValue) → IsInOrder rows → row.birth < 2 ^ 31 → All (λ r. r.birth < row.birth) rows → with_row row rows ≡ with_at (key_of row) (row ∷ []) rows
 appended-at row [] order young older = sym (with_at-nil (key_of row) (row ∷ []))
 appended-at row (r ∷ rows) order young older =

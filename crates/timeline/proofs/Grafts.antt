@@ -80,6 +80,7 @@ module _ (old new : Store) (limit i tip edit half : ℕ) (stands : Stands old i)
   other-key : (q : ℕ) → o / 2 ^ half ≡ q → (label_of (trie old i)).key / 2 ^ half ≡ q
   other-key q e = ap (λ (m : Label). m.key / 2 ^ half) (stands-label old i stands) ∙ e
 
+  -- if the tip's key has 0 where the keys part, a tree node over the tip and then the other one has the tip put in
   pub lower-graft : (j : ℕ) → IsJoined old new half tip i edit j → k / 2 ^ half ≡ 2 * (k / 2 ^ (half + 1)) → IsPut old new limit i tip edit j
   lower-graft j joined first-s =
       let first : k / 2 ^ half ≡ 2 * p = first-s ∙ ap (λ (h : ℕ). 2 * (k / 2 ^ h)) (add-one half) in
@@ -96,6 +97,7 @@ module _ (old new : Store) (limit i tip edit half : ℕ) (stands : Stands old i)
         changed = finish-changed old new half tip i edit j k (suc edit) rows (rows_of (trie old i)) (λ a b. last_in a b (trie old i)) joined tipped.stands stands made half-low here;
       }
 
+  -- if it has 1 there, a tree node over the other one and then the tip has the tip put in
   pub higher-graft : (j : ℕ) → IsJoined old new half i tip edit j → k / 2 ^ half ≡ 2 * (k / 2 ^ (half + 1)) + 1 → IsPut old new limit i tip edit j
   higher-graft j joined second-s =
       let second : k / 2 ^ half ≡ 2 * p + 1 = second-s ∙ up 1 in
@@ -116,8 +118,10 @@ module _ (old new : Store) (limit i tip edit half : ℕ) (stands : Stands old i)
     graft-sizes : (span_at old tip).count + (span_at old i).count ≤ length (rows_of (trie old i)) + 1
     graft-sizes = omega (arith, size-of old tip tipped.stands, size-of old i stands, tip-few old tip edit rows tipped)
 
+    -- the two have fewer than 2 ^ 32 rows together
     pub graft-count : (span_at old tip).count + (span_at old i).count < 2 ^ 32
     graft-count = omega (arith, graft-sizes, room)
 
+    -- the two weigh less than 2 ^ 96 together
     pub graft-weight : weight_in (span_at old tip) + weight_in (span_at old i) < 2 ^ 96
     graft-weight = omega (arith, mass-of old tip fit tipped.stands, mass-of old i fit stands, graft-sizes, room)

@@ -27,12 +27,15 @@ module _ (a b : Store) (half l r edit j : ℕ) (joined : IsJoined a b half l r e
   )
 
   module _ (is : IsTrie (Fork (label_at b j) (trie a l) (trie a r))) where
+    -- the new tree node is the root of its tree
     pub joined-stands : Stands b j
     joined-stands = drawn-stands b j (Fork (label_at b j) (trie a l) (trie a r)) drawn is (omega (arith, joined.parts.height, low))
 
+    -- its tree is the fork over those of its halves
     pub joined-trie : trie b j ≡ Fork (label_at b j) (trie a l) (trie a r)
     joined-trie = trie-is b j (Fork (label_at b j) (trie a l) (trie a r)) drawn is (omega (arith, joined.parts.height, low))
 
+  -- its label is that of a fork over the labels of its halves, with the key and the version of the edit
   pub joined-over : IsOver (label_at b j) half (edit_key a edit) (suc edit) (label_of (trie a l)) (label_of (trie a r))
   joined-over = record {
     height = joined.parts.height;
@@ -43,6 +46,7 @@ module _ (a b : Store) (half l r edit j : ℕ) (joined : IsJoined a b half l r e
   }
 
 -- ---- sizes
+-- the root of a tree counts the rows of the tree
 pub size-of : (store : Store) (i : ℕ) → Stands store i → (span_at store i).count ≡ length (rows_of (trie store i))
 size-of store i s = sym (ap (λ (m : Label). m.count) (stands-label store i s)) ∙ count-is (trie store i) s.is
 
@@ -62,6 +66,7 @@ rows-fit store i (Leaf l rows) fit d =
 rows-fit store i (Fork l x y) fit d =
     All-append IsFit (rows_of x) (rows_of y) (rows-fit store (span_at store i).left x fit d.1) (rows-fit store (span_at store i).right y fit d.2)
 
+-- rows that have their bounds weigh together at most 2 ^ 64 times their number
 pub light : (rows : List RowValue) → All IsFit rows → weight_of (moves_of rows) ≤ 2 ^ 64 * length rows
 light [] fit = omega arith
 light (r ∷ rows) fit =
@@ -69,9 +74,11 @@ light (r ∷ rows) fit =
     let here : IsFit r = All-head IsFit r rows fit in
     omega (arith, one, here.light, light rows (All-tail IsFit r rows fit))
 
+-- if all rows of the store have their bounds, so have those of a tree
 pub all-fit : (store : Store) (i : ℕ) → AreFit store → Stands store i → All IsFit (rows_of (trie store i))
 all-fit store i fit s = rows-fit store i (trie store i) fit s.drawn
 
+-- a tree node weighs at most 2 ^ 64 for each row that it counts
 pub mass-of : (store : Store) (i : ℕ) → AreFit store → Stands store i → weight_in (span_at store i) ≤ 2 ^ 64 * (span_at store i).count
 mass-of store i fit s =
     let mass : weight_in (span_at store i) ≡ weight_of (moves_of (rows_of (trie store i))) = sym (ap (λ (m : Label). m.weight) (stands-label store i s)) ∙ weight-is (trie store i) s.is in
@@ -86,6 +93,7 @@ pub tip-few : (store : Store) (i edit : ℕ) (rows : List RowValue) → IsTip st
 tip-few store i edit rows tip =
     omega (arith, ap (λ (t : Trie). length (rows_of t)) (has-tip store i tip.stands tip.lowest).tree, take-few (span_at store i).count (row_at store (span_at store i).right))
 
+-- with more tree nodes alone, the rows and the keys still have their bounds
 pub fit-kept : (a b : Store) → GainsSpans a b → AreFit a → AreFit b
 fit-kept a b g fit = record {
   rows = subst (λ (rs : List RowValue). All IsFit rs) (sym g.rows) fit.rows;
@@ -93,6 +101,7 @@ fit-kept a b g fit = record {
 }
 
 -- ---- the tree of a tip
+-- the tree of a tree node of one key has the key that its edit touched, and the version of this edit
 pub tip-trie : (store : Store) (i edit : ℕ) (rows : List RowValue) → IsTip store edit rows i → IsTipTrie (edit_key store edit) (suc edit) (trie store i)
 tip-trie store i edit rows tip =
     let l = stands-label store i tip.stands in

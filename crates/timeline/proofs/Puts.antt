@@ -12,12 +12,17 @@ use Rattle.timeline.proofs.Drawings.{stands-label, HasHalves, stands-kept, trie-
 use Rattle.timeline.proofs.Changes.{IsOver, lower-changed, higher-changed, changed-same}
 use Rattle.timeline.proofs.Joins.{joined-stands, joined-trie, joined-over, size-of, mass-of, tip-few, fit-kept}
 
--- the label of a fork of this height
+-- the label of a fork whose halves are at most this high
 pub record IsForkAt (l x y : Label) (half : ℕ) : Type 0 where
+  -- the height of the first is at most half
   pub first_low : x.height ≤ half
+  -- so is that of the second
   pub second_low : y.height ≤ half
+  -- the first agrees with the fork in the higher digits, and has 0 at the one where the two part
   pub first_key : x.key / 2 ^ half ≡ 2 * (l.key / 2 ^ suc half)
+  -- the second agrees with it, too, and has 1 there
   pub second_key : y.key / 2 ^ half ≡ 2 * (l.key / 2 ^ suc half) + 1
+  -- the version of the fork is the later one of theirs
   pub latest : l.version ≡ max x.version y.version
 
 fork-at : (l x y : Label) (f : IsForkOf l x y) (half : ℕ) → f.half ≡ half → IsForkAt l x y half
@@ -42,6 +47,7 @@ unfolding IsTrie
 second-of l x y is = is.2
 
 -- ---- a new tree node over a changed one and another
+-- what is changed in the fork over the trees of its halves is changed in the tree of the new tree node
 pub finish-changed : (a b : Store) (half l r edit j k v : ℕ) (new old : List RowValue) (before : ℕ → ℕ → ℕ) (joined : IsJoined a b half l r edit j) → Stands a l → Stands a r → edit < length a.keys → half ≤ 62
     → IsChanged k v new old before (Fork (label_at b j) (trie a l) (trie a r)) → IsChanged k v new old before (trie b j)
 finish-changed a b half l r edit j k v new old before joined left right made low changed =
@@ -77,6 +83,7 @@ module _ (old mid new : Store) (limit i tip edit half : ℕ) (s : Span) (stands 
   prefix-same : edit_key old (span_at old i).edit / 2 ^ suc half ≡ k / 2 ^ suc half
   prefix-same = subst (λ (h : ℕ). edit_key old (span_at old i).edit / 2 ^ h ≡ k / 2 ^ h) height same
 
+  -- the digit at which the halves part is followed by 62 at most
   pub half-low : half ≤ 62
   half-low = omega (arith, height, low, bound)
 
@@ -84,6 +91,7 @@ module _ (old mid new : Store) (limit i tip edit half : ℕ) (s : Span) (stands 
   pub left-stands : Stands old s.left
   left-stands = subst (λ (w : Span). Stands old w.left) (sym read) has.left
 
+  -- the right one is the root of its tree, too
   pub right-stands : Stands old s.right
   right-stands = subst (λ (w : Span). Stands old w.right) (sym read) has.right
 
@@ -93,9 +101,11 @@ module _ (old mid new : Store) (limit i tip edit half : ℕ) (s : Span) (stands 
   right-height : (label_of (trie old r)).height ≡ (span_at old r).height
   right-height = ap (λ (m : Label). m.height) (stands-label old r has.right)
 
+  -- the height of the left half is at most half
   pub left-low : (span_at old s.left).height ≤ half
   left-low = subst (λ (w : Span). (span_at old w.left).height ≤ half) (sym read) (omega (arith, left-height, at.first_low))
 
+  -- so is that of the right one
   pub right-low : (span_at old s.right).height ≤ half
   right-low = subst (λ (w : Span). (span_at old w.right).height ≤ half) (sym read) (omega (arith, right-height, at.second_low))
 
@@ -105,9 +115,11 @@ module _ (old mid new : Store) (limit i tip edit half : ℕ) (s : Span) (stands 
   right-version : (label_of (trie old r)).version ≡ suc (span_at old r).edit
   right-version = ap (λ (m : Label). m.version) (stands-label old r has.right)
 
+  -- the left half is of an earlier edit
   pub left-older : (span_at old s.left).edit < edit
   left-older = subst (λ (w : Span). (span_at old w.left).edit < edit) (sym read) (omega (arith, left-version, at.latest, older))
 
+  -- so is the right one
   pub right-older : (span_at old s.right).edit < edit
   right-older = subst (λ (w : Span). (span_at old w.right).edit < edit) (sym read) (omega (arith, right-version, at.latest, older))
 
@@ -117,11 +129,13 @@ module _ (old mid new : Store) (limit i tip edit half : ℕ) (s : Span) (stands 
   right-key : edit_key old (span_at old r).edit ≡ (label_of (trie old r)).key
   right-key = sym (ap (λ (m : Label). m.key) (stands-label old r has.right))
 
+  -- if the new key has 0 where the halves part, it agrees with the left one but for the digits after that
   pub left-together : k / 2 ^ half ≡ 2 * (k / 2 ^ (half + 1)) → edit_key old (span_at old s.left).edit / 2 ^ half ≡ k / 2 ^ half
   left-together first =
       subst (λ (w : Span). edit_key old (span_at old w.left).edit / 2 ^ half ≡ k / 2 ^ half) (sym read)
       (ap (λ (n : ℕ). n / 2 ^ half) left-key ∙ at.first_key ∙ ap (λ (n : ℕ). 2 * n) (prefix-same ∙ sym (ap (λ (n : ℕ). k / 2 ^ n) (add-one half))) ∙ sym first)
 
+  -- if it has 1 there, it agrees so with the right one
   pub right-together : k / 2 ^ half ≡ 2 * (k / 2 ^ (half + 1)) + 1 → edit_key old (span_at old s.right).edit / 2 ^ half ≡ k / 2 ^ half
   right-together second =
       subst (λ (w : Span). edit_key old (span_at old w.right).edit / 2 ^ half ≡ k / 2 ^ half) (sym read)
@@ -133,9 +147,11 @@ module _ (old mid new : Store) (limit i tip edit half : ℕ) (s : Span) (stands 
   sizes : length (rows_of (trie old l)) + length (rows_of (trie old r)) ≡ length (rows_of (trie old i))
   sizes = omega (arith, ap length rows-are, length-append (rows_of (trie old l)) (rows_of (trie old r)))
 
+  -- where the tree has fewer than 2 ^ 31 rows, so has the left half
   pub left-room : length (rows_of (trie old i)) < 2 ^ 31 → length (rows_of (trie old s.left)) < 2 ^ 31
   left-room room = subst (λ (w : Span). length (rows_of (trie old w.left)) < 2 ^ 31) (sym read) (omega (arith, sizes, room))
 
+  -- so has the right one
   pub right-room : length (rows_of (trie old i)) < 2 ^ 31 → length (rows_of (trie old s.right)) < 2 ^ 31
   right-room room = subst (λ (w : Span). length (rows_of (trie old w.right)) < 2 ^ 31) (sym read) (omega (arith, sizes, room))
 
@@ -149,6 +165,7 @@ module _ (old mid new : Store) (limit i tip edit half : ℕ) (s : Span) (stands 
       lower-grown : Grows old mid
       lower-grown = Grows-gained old mid put.gains
 
+      -- the right half is still the root of its tree
       pub lower-other : Stands mid s.right
       lower-other = stands-kept old mid lower-grown s.right right-stands
 
@@ -164,14 +181,17 @@ module _ (old mid new : Store) (limit i tip edit half : ℕ) (s : Span) (stands 
             size-of mid s.right lower-other ∙ ap (λ (t : Trie). length (rows_of t)) (trie-kept old mid lower-grown s.right right-stands) ∙ ap (λ (w : Span). length (rows_of (trie old w.right))) read in
             omega (arith, size-of mid u put.stands, ap length put-l.changed.rows, mine, one, there, sizes)
 
+        -- the changed half and the right one have fewer than 2 ^ 32 rows together
         pub lower-count : (span_at mid u).count + (span_at mid s.right).count < 2 ^ 32
         lower-count = omega (arith, lower-sizes, room)
 
+        -- they weigh less than 2 ^ 96 together
         pub lower-weight : weight_in (span_at mid u) + weight_in (span_at mid s.right) < 2 ^ 96
         lower-weight =
             let fits = fit-kept old mid put.gains fit in
             omega (arith, mass-of mid u fits put.stands, mass-of mid s.right fits lower-other, lower-sizes, room)
 
+      -- if the new key has 0 where the halves part, the new tree node over these two has the tip put in
       pub lower-put : (j : ℕ) → IsJoined mid new half u s.right edit j → k / 2 ^ half ≡ 2 * (k / 2 ^ (half + 1)) → IsPut old new limit i tip edit j
       lower-put j joined-s first-s =
           let joined : IsJoined mid new half u r edit j = subst (λ (w : Span). IsJoined mid new half u w.right edit j) read joined-s in
@@ -205,6 +225,7 @@ module _ (old mid new : Store) (limit i tip edit half : ℕ) (s : Span) (stands 
       higher-grown : Grows old mid
       higher-grown = Grows-gained old mid put.gains
 
+      -- the left half is still the root of its tree
       pub higher-other : Stands mid s.left
       higher-other = stands-kept old mid higher-grown s.left left-stands
 
@@ -220,14 +241,17 @@ module _ (old mid new : Store) (limit i tip edit half : ℕ) (s : Span) (stands 
             size-of mid s.left higher-other ∙ ap (λ (t : Trie). length (rows_of t)) (trie-kept old mid higher-grown s.left left-stands) ∙ ap (λ (w : Span). length (rows_of (trie old w.left))) read in
             omega (arith, size-of mid u put.stands, ap length put-r.changed.rows, mine, one, there, sizes)
 
+        -- the left half and the changed one have fewer than 2 ^ 32 rows together
         pub higher-count : (span_at mid s.left).count + (span_at mid u).count < 2 ^ 32
         higher-count = omega (arith, higher-sizes, room)
 
+        -- they weigh less than 2 ^ 96 together
         pub higher-weight : weight_in (span_at mid s.left) + weight_in (span_at mid u) < 2 ^ 96
         higher-weight =
             let fits = fit-kept old mid put.gains fit in
             omega (arith, mass-of mid u fits put.stands, mass-of mid s.left fits higher-other, higher-sizes, room)
 
+      -- if the new key has 1 where the halves part, the new tree node over these two has the tip put in
       pub higher-put : (j : ℕ) → IsJoined mid new half s.left u edit j → k / 2 ^ half ≡ 2 * (k / 2 ^ (half + 1)) + 1 → IsPut old new limit i tip edit j
       higher-put j joined-s second-s =
           let joined : IsJoined mid new half l u edit j = subst (λ (w : Span). IsJoined mid new half w.left u edit j) read joined-s in

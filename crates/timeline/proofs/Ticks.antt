@@ -32,6 +32,7 @@ module _ (store : Store) (roots : List ℕ) (is : IsTimeline store roots) (a b v
   pub none-at : v ≡ 0 → rows_at (past_in store roots) v ≡ []
   none-at e = ap (rows_at (past_in store roots)) e
 
+  -- no version has touched [a, b) by then
   pub none-since : v ≡ 0 → 0 ≡ since a b (past_in store roots).ticks v
   none-since e = sym (ap (since a b (past_in store roots).ticks) e ∙ since-none a b (past_in store roots).ticks)
 
@@ -46,20 +47,25 @@ module _ (store : Store) (roots : List ℕ) (is : IsTimeline store roots) (a b v
     made : v ≤ length store.keys
     made = omega (arith, within, length-map store.keys tick_of)
 
+    -- the version has a root
     pub root-there : edit < length roots
     root-there = omega (arith, made, version-is, is.versions)
 
+    -- this is the root of the version
     pub root-is : IsRoot store edit (get_or roots edit 0)
     root-is = is.each edit root-there
 
     rows-here : rows_at (past_in store roots) v ≡ rows_below store (get_or roots edit 0)
     rows-here = ap (rows_at (past_in store roots)) version-is ∙ version-rows store roots edit root-there
 
+    -- it has fewer than 2 ^ 32 rows
     pub root-few : length (rows_below store (get_or roots edit 0)) < 2 ^ 32
     root-few = omega (arith, root-is.few, version-is, made, is.bound)
 
+    -- its rows with keys from those of tick a on and below those of tick b are the version's with ticks in [a, b)
     pub keyed-here : keyed_in (key_at a 0) (key_at b 0) (rows_below store (get_or roots edit 0)) ≡ rows_in a b (rows_at (past_in store roots) v)
     keyed-here = keyed-ticks a b (rows_below store (get_or roots edit 0)) (all-fit store (get_or roots edit 0) is.fit root-is.stands) ∙ ap (rows_in a b) (sym rows-here)
 
+    -- the last version in its tree that touched one of these keys is the last one up to v that touches [a, b)
     pub since-here : last_in (key_at a 0) (key_at b 0) (trie store (get_or roots edit 0)) ≡ since a b (past_in store roots).ticks v
     since-here = root-is.touched (key_at a 0) (key_at b 0) ∙ since-ticks a b store.keys (suc edit) (omega (arith, version-is, made)) ∙ ap (since a b (map tick_of store.keys)) (sym version-is)

@@ -50,9 +50,11 @@ module _ (a b : Store) (g : Grows a b) where
         few = omega (arith, ap (λ (t : Trie). length (rows_of t)) same, r.few);
       }
 
+  -- the roots of the versions stay their roots
   pub roots-kept : (roots : List ℕ) → length roots ≤ length a.keys → AreRoots a roots → AreRoots b roots
   roots-kept roots made each = λ edit h. root-kept edit (get_or roots edit 0) (omega (arith, made, h)) (each edit h)
 
+  -- their rows stay the same
   pub rows-kept : (roots : List ℕ) → AreRoots a roots → map (rows_below b) roots ≡ map (rows_below a) roots
   rows-kept roots each = same-maps (rows_below b) (rows_below a) roots (λ edit h. ap rows_of (trie-kept a b g (get_or roots edit 0) (each edit h).stands))
 
@@ -78,9 +80,11 @@ first-next store roots tip edit number count tipped =
 
 -- a later version
 module _ (old new : Store) (roots : List ℕ) (tip edit last : ℕ) (root j : ℕ) (count : edit ≡ length roots) (last-is : edit ≡ suc last) (root-is : root ≡ get_or roots last 0) (each : AreRoots old roots) where
+  -- the last root is that of the last version
   pub last-root : IsRoot old last root
   last-root = subst (λ (i : ℕ). IsRoot old last i) (sym root-is) (each last (omega (arith, count, last-is)))
 
+  -- the last root with the tip put in is the root of the next version
   pub later-next : IsTip old edit (rows_below old tip) tip → IsPut old new 63 root tip edit j → IsNext old new roots tip edit j
   later-next tipped put =
       let before : last_rows old roots ≡ rows_below old root =
@@ -117,19 +121,23 @@ module _ (old one two three : Store) (roots : List ℕ) (key edit tip root : ℕ
     keys = Keeps-push 0 old.keys one.keys key keys;
   }
 
+  -- the key of the new edit is the one that was added
   pub one-key : edit_key one edit ≡ key
   one-key = ap (λ ks. get_or ks edit 0) keys ∙ get_or_at old.keys key [] 0 edit (sym edit-is)
 
   module _ (gains : GainsRows one two) where
+    -- with more rows and tree nodes, too, the store has grown
     pub two-grown : Grows old two
     two-grown = Grows-more old one two keyed gains.grows
 
+    -- the roots are still those of their versions
     pub two-roots : AreRoots two roots
     two-roots = roots-kept old two two-grown roots (omega (arith, is.versions)) is.each
 
     two-keys : two.keys ≡ old.keys ++ key ∷ []
     two-keys = gains.keys ∙ keys
 
+    -- the number of the new edit is how many roots there are
     pub count : edit ≡ length roots
     count = omega (arith, edit-is, is.versions)
 
@@ -155,6 +163,7 @@ module _ (old one two three : Store) (roots : List ℕ) (key edit tip root : ℕ
                 subst (λ (i : ℕ). IsRoot three v i) (sym (new-root v e)) (subst (λ (n : ℕ). IsRoot three n root) (count ∙ sym e) next.root))
           ]
 
+      -- with the new root there is a timeline of one version more, if there is room for it
       pub extended : length old.keys + 1 < 2 ^ 31 → IsTimeline three (roots ++ root ∷ [])
       extended room = record {
         versions = omega (arith, ap length three-keys, length-append old.keys (key ∷ []), length-append roots (root ∷ []), is.versions);
@@ -172,6 +181,7 @@ module _ (old one two three : Store) (roots : List ℕ) (key edit tip root : ℕ
           next.rows ∙ ap (λ (k : ℕ). with_at k (rows_below two tip) (last_rows two roots)) key-is ∙ ap (λ (rs : List RowValue). with_at key rs (last_rows two roots)) tipped.rows
           ∙ ap (with_at key list) before
 
+      -- this version touches the tick of the key, and has the rows of the last one with new ones at the key
       pub extended-past : past_in three (roots ++ root ∷ []) ≡ with_version (past_in old roots) (tick_of key) (with_at key list (current_rows (past_in old roots)))
       extended-past =
           let ticks : map tick_of three.keys ≡ map tick_of old.keys ++ tick_of key ∷ [] = ap (map tick_of) three-keys ∙ map-append tick_of old.keys (key ∷ []) in

@@ -36,6 +36,7 @@ module _ (store : Store) (j r edit n w : ℕ) (rows : List RowValue) (within : j
     weighed = parts.weight ∙ mass;
   }
 
+  -- a tree node of height 0 that counts and weighs these rows, all of the key of its edit, is one of this key
   pub new-tip : IsTip store edit rows j
   new-tip = record {
     stands = drawn-stands store j (Leaf (label_at store j) rows) drawn is (omega (arith, parts.height));
@@ -52,6 +53,7 @@ bare-tip a b j edit span appended parts made =
 
 -- a tree node with a new row
 module _ (a mid b : Store) (edit place : ℕ) (row : RowValue) (place-is : place ≡ length a.rows) (spans : mid.spans ≡ a.spans) (rows : mid.rows ≡ a.rows ++ row ∷ []) (keys : mid.keys ≡ a.keys) where
+  -- the new tree node is one of the key of this row, and has this row
   pub one-tip : (j w : ℕ) (span : Span) → IsAppended mid b span j → IsSpan span 0 0 place edit 1 w → edit < length a.keys → key_of row ≡ edit_key a edit → w ≡ move_weight row.x → IsTip b edit (row ∷ []) j
   one-tip j w span appended parts made keyed mass =
       let same-keys : b.keys ≡ a.keys = appended.keys ∙ keys in
@@ -62,6 +64,7 @@ module _ (a mid b : Store) (edit place : ℕ) (row : RowValue) (place-is : place
       (omega (arith, made, ap length same-keys)) (λ h. omega (arith, place-is, ap length same-rows, length-append a.rows (row ∷ []))) (ap (λ (r : RowValue). r ∷ []) (sym read)) refl (omega (arith, mass))
       (All-push (λ (r : RowValue). key_of r ≡ edit_key b edit) [] row (All-nil (λ (r : RowValue). key_of r ≡ edit_key b edit)) key)
 
+  -- the store has gained a row, which has its bounds, and tree nodes
   pub one-gains : GainsSpans mid b → AreFit a → IsFit row → GainsRows a b
   one-gains gains fit here =
       let same-keys : b.keys ≡ a.keys = gains.keys ∙ keys in
@@ -78,6 +81,7 @@ module _ (a mid b : Store) (edit place : ℕ) (row : RowValue) (place-is : place
         };
       }
 
+-- whether a tree node was appended or there was an error, the store has at most gained tree nodes
 pub gained-either : (a b : Store) {E : Type 0} (span : Span) (r : Result ℕ E) → IfOk r (IsAppended a b span) → OnErr r (GainsSpans a b) → GainsSpans a b
 gained-either a b span (Ok j) ok err = Gains-appended a b span j ok
 gained-either a b span (Err e) ok err = err

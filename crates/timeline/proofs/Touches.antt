@@ -9,6 +9,7 @@ use Rattle.timeline.specs.Keys.{tick_of}
 use Rattle.timeline.specs.Moments.{since, IsFirstAfter}
 use Rattle.timeline.specs.Puts.{Keeps}
 
+-- the last version up to v that touches [a, b) stays the same when the list of what is touched grows
 pub since-kept : (a b : ℕ) (xs ys : List ℕ) (v : ℕ) → Keeps 0 xs ys → v ≤ length xs → since a b ys v ≡ since a b xs v
 unfolding since
 since-kept a b xs ys zero k h = refl
@@ -17,10 +18,12 @@ since-kept a b xs ys (suc v) k h =
     let rest = since-kept a b xs ys v k (omega arith) in
     ap (λ (t : ℕ). cond (lies_in a b t) (suc v) (since a b ys v)) key ∙ ap (λ (s : ℕ). cond (lies_in a b (get_or xs v 0)) (suc v) s) rest
 
+-- up to version 0 none touches [a, b)
 pub since-none : (a b : ℕ) (touched : List ℕ) → since a b touched 0 ≡ 0
 unfolding since
 since-none a b touched = refl
 
+-- the last version up to v + 1 that touches [a, b) is v + 1 if that one does, else the last one up to v
 pub since-next : (a b : ℕ) (touched : List ℕ) (v : ℕ) → since a b touched (suc v) ≡ cond (lies_in a b (get_or touched v 0)) (suc v) (since a b touched v)
 unfolding since
 since-next a b touched v = refl
@@ -29,6 +32,7 @@ since-next a b touched v = refl
 tick-in : (a b k : ℕ) → lies_in (a * 2 ^ 31 + 0) (b * 2 ^ 31 + 0) k ≡ lies_in a b (tick_of k)
 tick-in a b k = grind (arith, nat_tests)
 
+-- the last version that touches the keys of the ticks in [a, b) is the last one whose tick is in [a, b)
 pub since-ticks : (a b : ℕ) (keys : List ℕ) (v : ℕ) → v ≤ length keys → since (a * 2 ^ 31 + 0) (b * 2 ^ 31 + 0) keys v ≡ since a b (map tick_of keys) v
 unfolding since
 since-ticks a b keys zero h = refl
@@ -41,6 +45,7 @@ since-ticks a b keys (suc v) h =
 le-step : (a b t v x : ℕ) → x ≤ v → cond (lies_in a b t) (suc v) x ≤ suc v
 le-step a b t v x h = grind (arith, nat_tests)
 
+-- the last version up to v that touches [a, b) is at most v
 pub since-le : (a b : ℕ) (touched : List ℕ) (v : ℕ) → since a b touched v ≤ v
 unfolding since
 since-le a b touched zero = omega arith
@@ -63,6 +68,7 @@ first-suc a b touched v u h within before after =
       first = subst (λ (n : ℕ). since a b touched n ≤ v) (sym e) before;
     }
 
+-- if none after v and up to u touches [a, b), but u + 1 does, this is the first one after v that does
 pub first-after : (a b : ℕ) (touched : List ℕ) (v u t : ℕ) → v ≤ u → t ≡ suc u → t ≤ length touched → since a b touched u ≤ v → v < since a b touched t → IsFirstAfter a b touched v t
 first-after a b touched v u t h e within before after =
     subst (λ (n : ℕ). IsFirstAfter a b touched v n) (sym e)

@@ -11,6 +11,7 @@ use Rattle.timeline.proofs.Prefixes.{prefix-suc, agree-shorter, power_pos}
 use Rattle.timeline.proofs.Filters.{HasPrefix, key-outside, key-inside, rows-outside, rows-inside, weight-append}
 
 -- ---- all keys agree with one without their last digits
+-- the keys of all leaves agree with k but for the last g digits
 unfoldable pub Agree : ℕ → ℕ → Trie → Type 0
 Agree g k (Leaf l rows) = l.key / 2 ^ g ≡ k / 2 ^ g
 Agree g k (Fork l x y) = Agree g k x × Agree g k y
@@ -32,12 +33,15 @@ half-agrees x l half p d e h s = prefix-suc x half ∙ ap (λ (n : ℕ). n / 2) 
     halved : (p d : ℕ) → d < 2 → (2 * p + d) / 2 ≡ p
     halved p d s = omega arith
 
+-- the key of the first half agrees with the fork's but for the digit where the halves part, and those after it
 pub first-agrees : (l x y : Label) (f : IsForkOf l x y) → x.key / 2 ^ suc f.half ≡ l.key / 2 ^ suc f.half
 first-agrees l x y f = half-agrees x.key l.key f.half (l.key / 2 ^ suc f.half) 0 refl (omega (arith, f.first_key)) (omega arith)
 
+-- so does that of the second half
 pub second-agrees : (l x y : Label) (f : IsForkOf l x y) → y.key / 2 ^ suc f.half ≡ l.key / 2 ^ suc f.half
 second-agrees l x y f = half-agrees y.key l.key f.half (l.key / 2 ^ suc f.half) 1 refl f.second_key (omega arith)
 
+-- all keys of a tree of height g at most agree with that of its root but for the last g digits
 pub agrees : (t : Trie) (g : ℕ) → IsTrie t → (label_of t).height ≤ g → Agree g (label_of t).key t
 unfolding Agree IsTrie
 agrees (Leaf l rows) g is low = refl
@@ -58,6 +62,7 @@ agree-rows (Leaf l rows) g k is a =
 agree-rows (Fork l x y) g k is a =
     All-append (HasPrefix (2 ^ g) (k / 2 ^ g)) (rows_of x) (rows_of y) (agree-rows x g k is.1 a.0) (agree-rows y g k is.2 a.1)
 
+-- the rows of a tree of height g at most have the root's key without the last g digits as their prefix
 pub rows-agree : (t : Trie) (g : ℕ) → IsTrie t → (label_of t).height ≤ g → All (HasPrefix (2 ^ g) ((label_of t).key / 2 ^ g)) (rows_of t)
 rows-agree t g is low = agree-rows t g (label_of t).key is (agrees t g is low)
 
@@ -81,6 +86,7 @@ cond-le false v = omega arith
 max-le : (a b c d : ℕ) → a ≤ c → b ≤ d → max a b ≤ max c d
 max-le a b c d p q = omega arith
 
+-- the last version that touched an interval is at most that of the root
 pub last-le : (a b : ℕ) (t : Trie) → IsTrie t → last_in a b t ≤ (label_of t).version
 unfolding IsTrie
 last-le a b (Leaf l rows) is = cond-le (lies_in a b l.key) l.version
@@ -88,11 +94,13 @@ last-le a b (Fork l x y) is =
     omega (arith, is.0.latest, max-le (last_in a b x) (last_in a b y) (label_of x).version (label_of y).version (last-le a b x is.1) (last-le a b y is.2))
 
 -- ---- numbers and weights
+-- the count at the root of a tree is the number of its rows
 pub count-is : (t : Trie) → IsTrie t → (label_of t).count ≡ length (rows_of t)
 unfolding IsTrie
 count-is (Leaf l rows) is = is.counted
 count-is (Fork l x y) is = omega (arith, is.0.counted, count-is x is.1, count-is y is.2, length-append (rows_of x) (rows_of y))
 
+-- the weight at the root of a tree is that of its rows
 pub weight-is : (t : Trie) → IsTrie t → (label_of t).weight ≡ weight_of (moves_of (rows_of t))
 unfolding IsTrie
 weight-is (Leaf l rows) is = is.weighed
@@ -112,14 +120,18 @@ module _ (a b : ℕ) (t : Trie) (is : IsTrie t) where
   all : All (HasPrefix size ((label_of t).key / size)) (rows_of t)
   all = rows-agree t (label_of t).height is (omega arith)
 
+  -- no version touched an interval that ends before the keys of the tree or begins after them
   pub last-outside : (b ≤ low) ⊎ (low + size ≤ a) → last_in a b t ≡ 0
   last-outside out = agree-outside a b (label_of t).key (label_of t).height t here out
 
+  -- such an interval has none of the rows
   pub keyed-outside : (b ≤ low) ⊎ (low + size ≤ a) → keyed_in a b (rows_of t) ≡ []
   keyed-outside out = rows-outside a b (label_of t).key size (power_pos (label_of t).height) out (rows_of t) all
 
+  -- the last version that touched an interval with all keys of the tree is that of the root
   pub last-inside : a ≤ low → low + size ≤ b → last_in a b t ≡ (label_of t).version
   last-inside from to = agree-inside a b (label_of t).key (label_of t).height t is here from to
 
+  -- such an interval has all rows
   pub keyed-inside : a ≤ low → low + size ≤ b → keyed_in a b (rows_of t) ≡ rows_of t
   keyed-inside from to = rows-inside a b (label_of t).key size (power_pos (label_of t).height) from to (rows_of t) all

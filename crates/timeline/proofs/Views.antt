@@ -34,9 +34,11 @@ module _ (store : Store) (i a b : ℕ) (stands : Stands store i) where
   to-label : low + size ≤ b → lowest (label_of (trie store i)).key (label_of (trie store i)).height + 2 ^ (label_of (trie store i)).height ≤ b
   to-label h = subst (λ (m : Label). lowest m.key m.height + 2 ^ m.height ≤ b) (sym (stands-label store i stands)) h
 
+  -- an interval that ends before the keys of the tree node or begins after them has none of its rows
   pub none-outside : (b ≤ low) ⊎ (low + size ≤ a) → keyed_in a b (rows_of (trie store i)) ≡ []
   none-outside out = keyed-outside a b (trie store i) stands.is (outside-label out)
 
+  -- the totals of such an interval are 0
   pub outside-totals : (b ≤ low) ⊎ (low + size ≤ a) → AreTotals a b (trie store i) no_totals
   outside-totals out =
       let none = none-outside out in
@@ -46,9 +48,11 @@ module _ (store : Store) (i a b : ℕ) (stands : Stands store i) where
         touched = sym (last-outside a b (trie store i) stands.is (outside-label out));
       }
 
+  -- an interval with all keys of the tree node has all its rows
   pub all-inside : a ≤ low → low + size ≤ b → keyed_in a b (rows_of (trie store i)) ≡ rows_of (trie store i)
   all-inside from to = keyed-inside a b (trie store i) stands.is (from-label from) (to-label to)
 
+  -- the totals of such an interval are the count, the weight and the version of the tree node
   pub inside-totals : a ≤ low → low + size ≤ b → AreTotals a b (trie store i) (record { count = (span_at store i).count; weight = weight_in (span_at store i); since = suc (span_at store i).edit })
   inside-totals from to =
       let all = all-inside from to in
@@ -58,7 +62,7 @@ module _ (store : Store) (i a b : ℕ) (stands : Stands store i) where
         touched = sym (ap (λ (m : Label). m.version) (stands-label store i stands)) ∙ sym (last-inside a b (trie store i) stands.is (from-label from) (to-label to));
       }
 
--- a tree node that keys fill is outside of an interval, or inside it, if it is of one key
+-- a tree node that counts no rows has none with keys in [a, b)
 pub no-rows : (store : Store) (i a b : ℕ) → Stands store i → (span_at store i).count ≡ 0 → keyed_in a b (rows_of (trie store i)) ≡ []
 no-rows store i a b stands none =
     ap (keyed_in a b) (nil_from_length (rows_of (trie store i)) (sym (size-of store i stands) ∙ none))
@@ -79,27 +83,33 @@ lighter-in a b (r ∷ rows) =
 
 -- ---- the halves
 module _ (store : Store) (i a b : ℕ) (s : Span) (has : HasHalves store i) (read : s ≡ span_at store i) where
+  -- the left half is the root of its tree
   pub left-here : Stands store s.left
   left-here = subst (λ (w : Span). Stands store w.left) (sym read) has.left
 
+  -- so is the right one
   pub right-here : Stands store s.right
   right-here = subst (λ (w : Span). Stands store w.right) (sym read) has.right
 
   height : s.height ≡ suc has.half
   height = ap (λ (w : Span). w.height) read ∙ has.higher
 
+  -- the left half is lower than the tree node
   pub left-lower : (span_at store s.left).height ≤ s.height - 1
   left-lower = subst (λ (w : Span). (span_at store w.left).height ≤ s.height - 1) (sym read) (omega (arith, has.first_low, height))
 
+  -- so is the right one
   pub right-lower : (span_at store s.right).height ≤ s.height - 1
   right-lower = subst (λ (w : Span). (span_at store w.right).height ≤ s.height - 1) (sym read) (omega (arith, has.second_low, height))
 
   tree : trie store i ≡ Fork (label_at store i) (trie store s.left) (trie store s.right)
   tree = has.tree ∙ sym (ap (λ (w : Span). Fork (label_at store i) (trie store w.left) (trie store w.right)) read)
 
+  -- the rows are those of the left half, then those of the right one
   pub rows-are : rows_of (trie store i) ≡ rows_of (trie store s.left) ++ rows_of (trie store s.right)
   rows-are = ap rows_of tree
 
+  -- so are the rows with keys in [a, b)
   pub keyed-are : keyed_in a b (rows_of (trie store i)) ≡ keyed_in a b (rows_of (trie store s.left)) ++ keyed_in a b (rows_of (trie store s.right))
   keyed-are = ap (keyed_in a b) rows-are ∙ keyed-append a b (rows_of (trie store s.left)) (rows_of (trie store s.right))
 
@@ -107,16 +117,20 @@ module _ (store : Store) (i a b : ℕ) (s : Span) (has : HasHalves store i) (rea
   lengths = omega (arith, ap length rows-are, length-append (rows_of (trie store s.left)) (rows_of (trie store s.right)))
 
   module _ (room : length (rows_of (trie store i)) < 2 ^ 32) where
+    -- the left half has fewer than 2 ^ 32 rows
     pub left-few : length (rows_of (trie store s.left)) < 2 ^ 32
     left-few = omega (arith, lengths, room)
 
+    -- so has the right one
     pub right-few : length (rows_of (trie store s.right)) < 2 ^ 32
     right-few = omega (arith, lengths, room)
 
     module _ (fit : AreFit store) (x y : Totals) (first : AreTotals a b (trie store s.left) x) (second : AreTotals a b (trie store s.right) y) where
+      -- the counts of both halves add up to less than 2 ^ 64
       pub sum-count : x.count + y.count < 2 ^ 64
       sum-count = omega (arith, first.count, second.count, keyed-fewer a b (rows_of (trie store s.left)), keyed-fewer a b (rows_of (trie store s.right)), lengths, room)
 
+      -- the weights of both halves add up to less than 2 ^ 128
       pub sum-weight : x.weight + y.weight < 2 ^ 128
       sum-weight =
           omega (
@@ -131,6 +145,7 @@ module _ (store : Store) (i a b : ℕ) (s : Span) (has : HasHalves store i) (rea
             room,
           )
 
+      -- the totals of both halves make up those of the tree node
       pub sum-totals : AreTotals a b (trie store i) (summed x y)
       sum-totals = record {
         count = omega (arith, first.count, second.count, ap length keyed-are, length-append (keyed_in a b (rows_of (trie store s.left))) (keyed_in a b (rows_of (trie store s.right))));
@@ -142,9 +157,11 @@ module _ (store : Store) (i a b : ℕ) (s : Span) (has : HasHalves store i) (rea
       }
 
 -- ---- lists of rows
+-- no rows after the old ones leave them as they are
 pub nothing-more : (old more : List RowValue) → more ≡ [] → old ≡ old ++ more
 nothing-more old more e = sym (ap (λ (rs : List RowValue). old ++ rs) e ∙ append-nil old)
 
+-- a tree node that counts no rows has none
 pub no-rows-at : (store : Store) (i : ℕ) → Stands store i → (span_at store i).count ≡ 0 → rows_of (trie store i) ≡ []
 no-rows-at store i stands none = nil_from_length (rows_of (trie store i)) (sym (size-of store i stands) ∙ none)
 
@@ -164,6 +181,7 @@ one-row store i s stands read lowest some =
     ∙ take-whole (span_at store i).count (row_at store (span_at store i).right) tip.counted (λ e. some (ap (λ (w : Span). w.count) read ∙ e))
     ∙ sym (ap (λ (w : Span). row_at store w.right ∷ []) read)
 
+-- the row that it points to is in the store
 pub one-within : (store : Store) (i : ℕ) (s : Span) → Stands store i → s ≡ span_at store i → s.height ≡ 0 → (s.count ≡ 0 → ⊥) → s.right < length store.rows
 one-within store i s stands read lowest some =
     let tip = has-tip store i stands (sym (ap (λ (w : Span). w.height) read) ∙ lowest) in

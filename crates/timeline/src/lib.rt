@@ -12,7 +12,7 @@ pub mod span;
 mod tests;
 pub mod timeline;
 pub mod tree;
-pub mod view;
+mod view;
 
 pub use rows_view::RowsView;
 pub use timeline::Timeline;
