@@ -24,11 +24,13 @@ factor-odd m k n some odd e =
     let plus : sign (m - 1) ≡ pos 1 = (sign-parity (m - 1)).0 (omega arith) in
     sym (one-mul_ℤ (pos (n / m))) ∙ ap₂ (λ (z : ℤ) (j : ℕ). z *ℤ pos (j / m)) (sym plus) e
 
+-- the factor of an even power is the least common multiple divided by m, with the sign changed
 pub factor-even : (m k n : ℕ) → 1 ≤ m → m % 2 ≢ 1 → n ≡ lcm_to k → pos 0 -ℤ pos (n / m) ≡ log_factor m k
 factor-even m k n some even e =
     let minus : sign (m - 1) ≡ neg_ℤ (pos 1) = (sign-parity (m - 1)).1 (omega arith) in
     omega (arith, ints, ap₂ (λ (z : ℤ) (j : ℕ). z *ℤ pos (j / m)) minus (sym e))
 
+-- the bound of a logarithm is at least 1 at 1 to 8 letters
 pub log_bound-some : (k : ℕ) → k < 8 → 1 ≤ log_bound (k + 1)
 unfolding log_bound count_below
 log_bound-some zero h = omega arith
@@ -45,6 +47,7 @@ log_bound-some (suc (suc (suc (suc (suc (suc (suc (suc k)))))))) h = absurd (ome
 abbrev pub bounds_to : ℕ → List ℕ
 bounds_to n = map log_bound (up_to n)
 
+-- one length more has its bound at the end
 pub bounds_to-next : (n : ℕ) → bounds_to (suc n) ≡ bounds_to n ++ log_bound (suc n) ∷ []
 bounds_to-next n = map-append log_bound (up_to n) (suc n ∷ [])
 

@@ -35,8 +35,11 @@ HasStepRoom-same most a a' b word same room = record {
 
 -- the words of j letters have 0, and the others are as they were
 pub record IsCleared (j : ℕ) (old now : TensorValue) : Type 0 where
+  -- the extent stays the same
   pub same_extent : now.extent ≡ old.extent
+  -- each word of j letters has 0
   pub cleared : (word : List ℕ) → IsWord old.extent word → length word ≡ j → coefficient now word ≡ pos 0
+  -- each word of another length has what it had
   pub others : (word : List ℕ) → IsWord old.extent word → length word ≢ j → coefficient now word ≡ coefficient old word
 
 -- shorter words are as they were
@@ -83,10 +86,15 @@ cleared-product j b old now new clear joined word is_word len =
 
 -- one step of the rule, of which the words of more than j letters are written
 pub record IsStepping (s : List ℕ → ℤ) (k m j : ℕ) (old now : TensorValue) : Type 0 where
+  -- the step writes words of at most k - m + 1 letters, and j is no more than that
   pub within : j ≤ k - m + 1
+  -- the extent stays the same
   pub same_extent : now.extent ≡ old.extent
+  -- words of at most j letters, and at most k - m, still have the tail from m on
   pub shorter : (word : List ℕ) → IsWord old.extent word → length word ≤ j → length word ≤ k - m → coefficient now word ≡ tail_from s k m word
+  -- longer ones of up to k - m + 1 letters have the product of this tail and the reduced series
   pub written : (word : List ℕ) → IsWord old.extent word → j < length word → length word ≤ k - m + 1 → coefficient now word ≡ scaled_product (tail_from s k m) (reduced s) word
+  -- words of more than k - m + 1 letters have what they had
   pub longer : (word : List ℕ) → IsWord old.extent word → k - m + 1 < length word → coefficient now word ≡ coefficient old word
 
 -- at the start no word of the step is written
@@ -186,7 +194,9 @@ log-room most s extent v k enough shape same bounds positive deep fits = record 
 
 -- the words of more than k letters have their logarithm
 pub record IsLogAbove (s : List ℕ → ℤ) (k : ℕ) (old now : TensorValue) : Type 0 where
+  -- the extent stays the same
   pub same_extent : now.extent ≡ old.extent
+  -- each word of more than k letters has its logarithm
   pub logs : (word : List ℕ) → IsWord old.extent word → k < length word → coefficient now word ≡ logarithm s word
 
 -- one level more has its logarithm

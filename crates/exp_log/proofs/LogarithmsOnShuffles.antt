@@ -22,13 +22,16 @@ use Rattle.exp_log.proofs.ShuffleRelations.{weighted, scaled_product-cut, outer-
 use Rattle.lie_steps.proofs.Concatenations.{swapped}
 use Rattle.lie_steps.proofs.Exponentials.{sum_over-sum_below}
 
-zero-left : (n : ℕ) (x : ℤ) → pos n *ℤ (pos 0 *ℤ x) ≡ pos 0
+-- a product with 0 on the left
+pub zero-left : (n : ℕ) (x : ℤ) → pos n *ℤ (pos 0 *ℤ x) ≡ pos 0
 zero-left n x = ap (λ (z : ℤ). pos n *ℤ z) (zero-mul_ℤ x) ∙ *ℤ-zero (pos n)
 
-zero-right : (n : ℕ) (x : ℤ) → pos n *ℤ (x *ℤ pos 0) ≡ pos 0
+-- and on the right
+pub zero-right : (n : ℕ) (x : ℤ) → pos n *ℤ (x *ℤ pos 0) ≡ pos 0
 zero-right n x = ap (λ (z : ℤ). pos n *ℤ z) (*ℤ-zero x) ∙ *ℤ-zero (pos n)
 
 -- ---- what a series is on shuffles, as a sum of products
+-- s is f on shuffles: over those of u and v it adds up to the binomial of their lengths times f u v
 abbrev pub SplitsAs : (List ℕ → ℤ) → (List ℕ → List ℕ → ℤ) → Type 0
 SplitsAs s f = (u v : List ℕ) → over s u v ≡ pos (binom (length u + length v) (length u)) *ℤ f u v
 
@@ -50,6 +53,7 @@ split-cell s t f g hs ht u v p q r z hu hv =
     ∙ mul_assoc_ℤ (pos (binom (a + c + (b + d)) (a + c))) (pos (binom (a + c) a * binom (b + d) b)) (f p r *ℤ g q z)
     ∙ ap₂ (λ (n m : ℕ). pos (binom (n + m) n) *ℤ (pos (binom (a + c) a * binom (b + d) b) *ℤ (f p r *ℤ g q z))) hu hv
 
+-- where two series are f and g on shuffles, their scaled product is f joined with g
 pub product-splits : (s t : List ℕ → ℤ) (f g : List ℕ → List ℕ → ℤ) → SplitsAs s f → SplitsAs t g → SplitsAs (scaled_product s t) (joined f g)
 product-splits s t f g hs ht u v =
     let n : ℤ = pos (binom (length u + length v) (length u)) in
@@ -62,6 +66,7 @@ product-splits s t f g hs ht u v =
     ∙ cut-mul n (λ p q. cut (h p q) v) u
 
 -- ---- sums of products: what is joined of two products is a product
+-- a at u times b at v, joined with c at u times d at v, is the product of a and c at u times that of b and d at v
 pub joined-products : (a b c d : List ℕ → ℤ) (u v : List ℕ) → joined (λ p r. a p *ℤ b r) (λ q z. c q *ℤ d z) u v ≡ scaled_product a c u *ℤ scaled_product b d v
 joined-products a b c d u v =
     cut-same (λ p q. cut (λ r z. pos (binom (length p + length q) (length p) * binom (length r + length z) (length r)) *ℤ ((a p *ℤ b r) *ℤ (c q *ℤ d z))) v)
@@ -79,6 +84,7 @@ joined-products a b c d u v =
     ∙ cut-mul (cut (weighted b d) v) (weighted a c) u ∙ *ℤ_comm (cut (weighted b d) v) (cut (weighted a c) u)
     ∙ sym (ap₂ ◌*ℤ◌ (scaled_product-cut a c u) (scaled_product-cut b d v))
 
+-- f + f' joined with g is the sum of f joined with g and f' joined with g
 pub joined-add_left : (f f' g : List ℕ → List ℕ → ℤ) (u v : List ℕ) → joined (λ p r. f p r +ℤ f' p r) g u v ≡ joined f g u v +ℤ joined f' g u v
 joined-add_left f f' g u v =
     let c : List ℕ → List ℕ → List ℕ → List ℕ → ℤ = λ p q r z. pos (binom (length p + length q) (length p) * binom (length r + length z) (length r)) in
@@ -89,6 +95,7 @@ joined-add_left f f' g u v =
     ∙ cut-add (λ r z. c p q r z *ℤ (f p r *ℤ g q z)) (λ r z. c p q r z *ℤ (f' p r *ℤ g q z)) v)
     ∙ cut-add (λ p q. cut (λ r z. c p q r z *ℤ (f p r *ℤ g q z)) v) (λ p q. cut (λ r z. c p q r z *ℤ (f' p r *ℤ g q z)) v) u
 
+-- f joined with g + g' is the sum of f joined with g and f joined with g'
 pub joined-add_right : (f g g' : List ℕ → List ℕ → ℤ) (u v : List ℕ) → joined f (λ q z. g q z +ℤ g' q z) u v ≡ joined f g u v +ℤ joined f g' u v
 joined-add_right f g g' u v =
     let c : List ℕ → List ℕ → List ℕ → List ℕ → ℤ = λ p q r z. pos (binom (length p + length q) (length p) * binom (length r + length z) (length r)) in
@@ -102,9 +109,12 @@ joined-add_right f g g' u v =
 -- ---- the powers of a reduced tensor on shuffles
 -- the series is 1 at the empty word, and obeys the shuffle relations
 pub record IsGrouplike (s : List ℕ → ℤ) : Type 0 where
+  -- it is 1 at the empty word
   pub starts : s [] ≡ pos 1
+  -- over the shuffles of u and v it adds up to the binomial times its values at u and at v
   pub splits : SplitsAs s (λ u v. s u *ℤ s v)
 
+-- the value of the reduced series at one word beside an empty one, on either side, and the product of both values
 abbrev pub reduced_split : (List ℕ → ℤ) → List ℕ → List ℕ → ℤ
 reduced_split s u v = (reduced s u *ℤ unit v) +ℤ ((unit u *ℤ reduced s v) +ℤ (reduced s u *ℤ reduced s v))
 
@@ -118,6 +128,7 @@ binom-whole n = (let e : n + 0 ≡ n = omega arith in ap (λ (k : ℕ). binom k 
 alone : (x y : ℤ) → (x *ℤ pos 0) +ℤ ((pos 0 *ℤ y) +ℤ (x *ℤ y)) ≡ x *ℤ y
 alone x y = omega (arith, ints, *ℤ-zero x, zero-mul_ℤ y)
 
+-- that is what the reduced series of such a series is on shuffles
 pub reduced-splits : (s : List ℕ → ℤ) → IsGrouplike s → SplitsAs (reduced s) (reduced_split s)
 reduced-splits s ok [] [] = refl
 reduced-splits s ok [] (b ∷ v) = over-none_left (reduced s) (b ∷ v) ∙ omega (arith, ints, one-mul_ℤ (s (b ∷ v)), zero-mul_ℤ (s (b ∷ v)))
@@ -166,6 +177,7 @@ joined-step s a b u v =
     (joined-products unit (reduced s) (power s a) (power s b) u v ∙ ap (λ (x : ℤ). x *ℤ power s (suc b) v) (scaled_product-unit_left (power s a) u))
     (joined-products (reduced s) (reduced s) (power s a) (power s b) u v))
 
+-- on shuffles the m-th power is the sum, over m steps to u, v or both, of the powers of so many steps at each
 pub power-splits : (s : List ℕ → ℤ) → IsGrouplike s → (m : ℕ) → SplitsAs (power s m) (λ u v. spread m (λ a b. power s a u *ℤ power s b v))
 power-splits s ok zero u v = unit-obeys u v
 power-splits s ok (suc m) u v =
@@ -222,6 +234,7 @@ covers-right (suc m) (suc a) (suc b) h = omega (arith, covers-right m a (suc b) 
 shifted : (n : ℕ) (h : ℕ → ℤ) → h n ≡ pos 0 → sum_below n h ≡ h zero +ℤ sum_below n (λ i. h (suc i))
 shifted n h none = omega (arith, ints, sum_below-first n h, sum_below-next n h, none)
 
+-- the sum of f a b over all a and b below n, each as often as d a b says
 abbrev pub grid : ℕ → (ℕ → ℕ → ℕ) → (ℕ → ℕ → ℤ) → ℤ
 grid n d f = sum_below n (λ a. sum_below n (λ b. pos (d a b) *ℤ f a b))
 
@@ -272,6 +285,7 @@ grid-step m n f h =
     let moved : sum_below n q ≡ q zero +ℤ sum_below n y = shifted n q last in
     omega (arith, ints, left, right, moved)
 
+-- the sum over m steps has each a, b as often as m things can be covered by a of them and b of them
 pub spread-grid : (m n : ℕ) (f : ℕ → ℕ → ℤ) → m < n → spread m f ≡ grid n (covers m) f
 spread-grid m zero f h = absurd (omega arith)
 spread-grid zero (suc n) f h =
@@ -285,18 +299,22 @@ spread-grid (suc m) (suc n) f h =
     spread-grid m n (λ a b. f (suc a) b +ℤ (f a (suc b) +ℤ f (suc a) (suc b))) (omega arith) ∙ sym (grid-step m n f (omega arith))
 
 -- ---- the table of alternating sums
+-- the coefficient of the power m + 1 in the logarithm at k letters
 abbrev pub coefficient_of : ℕ → ℕ → ℤ
 coefficient_of k m = sign m *ℤ pos (lcm_to k / suc m)
 
+-- the sum of the coefficients of the powers 1 to k, each times the ways to cover so many things by a and b of them
 abbrev pub alternating : ℕ → ℕ → ℕ → ℤ
 alternating k a b = sum_below k (λ m. coefficient_of k m *ℤ pos (covers (suc m) a b))
 
+-- whether a number is 0
 abbrev pub is_zero : ℤ → Bool
 is_zero (pos zero) = true
 is_zero (pos (suc n)) = false
 is_zero (negsuc n) = false
 
-is_zero-true : (z : ℤ) → is_zero z ≡ true → z ≡ pos 0
+-- the test is for 0
+pub is_zero-true : (z : ℤ) → is_zero z ≡ true → z ≡ pos 0
 is_zero-true (pos zero) e = refl
 is_zero-true (pos (suc n)) e = cc
 is_zero-true (negsuc n) e = cc
@@ -306,6 +324,7 @@ abbrev pub guarded : Bool → (ℕ → Bool) → Bool
 guarded false test = true
 guarded true test = test 0
 
+-- whether all numbers below n pass a test
 abbrev pub all_below : ℕ → (ℕ → Bool) → Bool
 all_below zero test = true
 all_below (suc n) test = test n && all_below n test
@@ -318,6 +337,7 @@ and-right : (a b : Bool) → (a && b) ≡ true → b ≡ true
 and-right true b e = e
 and-right false b e = cc
 
+-- if all numbers below n pass a test, each of them does
 pub all_below-at : (n : ℕ) (test : ℕ → Bool) (i : ℕ) → all_below n test ≡ true → i < n → test i ≡ true
 all_below-at zero test i e h = absurd (omega arith)
 all_below-at (suc n) test i e h =
@@ -326,9 +346,11 @@ all_below-at (suc n) test i e h =
       | inr below ↦ all_below-at n test i (and-right (test n) (all_below n test) e) (omega arith)
     ]
 
+-- whether a and b are at least 1, and together at most k
 abbrev pub wanted : ℕ → ℕ → ℕ → Bool
 wanted k a b = nat_le 1 a && (nat_le 1 b && nat_le (a + b) k)
 
+-- whether the alternating sums of k are 0 for all a and b below 9 that are wanted
 abbrev pub table_of : ℕ → Bool
 table_of k = all_below 9 (λ a. all_below 9 (λ b. guarded (wanted k a b) (λ x. is_zero (alternating k a b))))
 
@@ -392,6 +414,7 @@ fold-empty (x ∷ moves) s =
     fold-empty moves (scaled_product s (step x))
     ∙ ap (λ (z : ℤ). pos 0 +ℤ (pos 1 *ℤ (s [] *ℤ z))) (step-empty x) ∙ omega (arith, ints, one-mul_ℤ (s [] *ℤ pos 1), mul-one_ℤ (s []))
 
+-- the signature is 1 at the empty word, and obeys the shuffle relations
 pub signature-IsGrouplike : (moves : List Parts) → IsGrouplike (signature moves)
 unfolding signature
 signature-IsGrouplike moves = record { starts = fold-empty moves unit; splits = signature-obeys moves }

@@ -27,7 +27,9 @@ partial_logarithm s n word = sum_below (min n (length word)) (log_term s word)
 
 -- the fronts and rests of a word meet it too
 pub record IsClosed (P : List ℕ → Type 0) : Type 0 where
+  -- the first n letters of a word that meets it do so
   pub front : (n : ℕ) (w : List ℕ) → P w → P (take n w)
+  -- so do the letters after them
   pub back : (n : ℕ) (w : List ℕ) → P w → P (drop n w)
 
 -- a coefficient at k letters is at most v ^ k
@@ -87,11 +89,13 @@ cut-sum-bound P s v m closed h before w n is le =
     sum_below-first n f ∙ ap (λ (z : ℤ). z +ℤ sum_below n (λ i. f (suc i))) (cut-none s m w) ∙ omega (arith, ints) in
     le_trans (le_of_eq (ap unsigned_abs e)) (le_trans (abs-sum_below n (λ i. f (suc i))) (cuts-bound P s v m closed h before w n is le))
 
+-- if a coefficient at k letters is at most v ^ k, each power of the reduced series has its bound
 pub power-bound : (P : List ℕ → Type 0) (s : List ℕ → ℤ) (v : ℕ) → IsClosed P → Within P s v → (m : ℕ) → PowerWithin P s v m
 unfolding scaled_product
 power-bound P s v closed h zero w is = unit-bound v w
 power-bound P s v closed h (suc m) w is = cut-sum-bound P s v m closed h (power-bound P s v closed h m) w (length w) is (omega arith)
 
+-- a sign has the absolute value 1
 pub sign-abs : (m : ℕ) → unsigned_abs (sign m) ≡ 1
 sign-abs zero = refl
 sign-abs (suc m) = omega (arith, ints, sign-abs m)
@@ -115,6 +119,7 @@ terms-bound P s v closed h w n is le =
     (le_trans (count_below-part k n (λ m. v ^ k * (lcm_to k / suc m * surjections (suc m) k)) le)
     (le_of_eq (count_below-mul k (v ^ k) (λ m. lcm_to k / suc m * surjections (suc m) k))))
 
+-- at k letters the sum over the first n powers is at most v ^ k times the bound of a logarithm
 pub partial_logarithm-bound : (P : List ℕ → Type 0) (s : List ℕ → ℤ) (v : ℕ) → IsClosed P → Within P s v → (w : List ℕ) (n : ℕ) → P w
     → unsigned_abs (partial_logarithm s n w) ≤ v ^ length w * log_bound (length w)
 unfolding partial_logarithm
@@ -135,11 +140,13 @@ logarithm-bound extent moves w are is =
     subst (λ (z : ℤ). unsigned_abs z ≤ weight moves ^ length w * log_bound (length w)) (partial_logarithm-all (signature moves) (length w) w (omega arith))
     (partial_logarithm-bound (λ u. length u ≤ extent.depth) (signature moves) (weight moves) (short-closed extent.depth) (signature-bound extent.depth moves (moves-StepsBounded extent moves are)) w (length w) is.short)
 
-reduced-same : (P : List ℕ → Type 0) (s t : List ℕ → ℤ) → ((w : List ℕ) → P w → s w ≡ t w) → (w : List ℕ) → P w → reduced s w ≡ reduced t w
+-- series that agree at some words agree there without their coefficients at the empty word
+pub reduced-same : (P : List ℕ → Type 0) (s t : List ℕ → ℤ) → ((w : List ℕ) → P w → s w ≡ t w) → (w : List ℕ) → P w → reduced s w ≡ reduced t w
 reduced-same P s t same [] is = refl
 reduced-same P s t same (a ∷ w) is = same (a ∷ w) is
 
-power-same : (P : List ℕ → Type 0) (s t : List ℕ → ℤ) → IsClosed P → ((w : List ℕ) → P w → s w ≡ t w) → (m : ℕ) (w : List ℕ) → P w → power s m w ≡ power t m w
+-- and their powers
+pub power-same : (P : List ℕ → Type 0) (s t : List ℕ → ℤ) → IsClosed P → ((w : List ℕ) → P w → s w ≡ t w) → (m : ℕ) (w : List ℕ) → P w → power s m w ≡ power t m w
 power-same P s t closed same zero w is = refl
 power-same P s t closed same (suc m) w is =
     scaled_product-same (reduced s) (reduced t) (power s m) (power t m) w

@@ -18,6 +18,7 @@ use Rattle.lie_steps.proofs.Concatenations.{swapped, sum_over-mul_right}
 abbrev pub weighted : (s t : List ℕ → ℤ) → List ℕ → List ℕ → ℤ
 weighted s t p q = pos (binom (length p + length q) (length p)) *ℤ (s p *ℤ t q)
 
+-- the scaled product at a word is the sum of these terms over its cuts
 pub scaled_product-cut : (s t : List ℕ → ℤ) (w : List ℕ) → scaled_product s t w ≡ cut (weighted s t) w
 unfolding scaled_product product_term
 scaled_product-cut s t w =
@@ -29,6 +30,7 @@ scaled_product-cut s t w =
     ∙ cut-sum (weighted s t) w
 
 -- ---- the shuffle relation
+-- over the shuffles of u and v the series adds up to the binomial of their lengths times its values at u and at v
 abbrev pub ObeysShuffles : (List ℕ → ℤ) → Type 0
 ObeysShuffles s = (u v : List ℕ) → over s u v ≡ pos (binom (length u + length v) (length u)) *ℤ (s u *ℤ s v)
 
@@ -61,6 +63,7 @@ four a b c d =
     ∙ ap (λ (n : ℕ). binom (a + b + (c + d)) a * (binom (b + c + d) (b + c) * n)) (binom-symmetric b c)
     ∙ sym (by_first a c b d ∙ ap₂ (λ (n m : ℕ). binom n a * (binom (m + d) m * binom (c + b) c)) whole exchanged)
 
+-- the factors m, n and k of a product, taken together in front of x and y
 pub products : (m n k : ℕ) (x y : ℤ) → pos m *ℤ ((pos n *ℤ x) *ℤ (pos k *ℤ y)) ≡ pos (m * (n * k)) *ℤ (x *ℤ y)
 products m n k x y =
     ap (λ (z : ℤ). pos m *ℤ z)
@@ -76,6 +79,7 @@ inner-cell s t x q z =
     ∙ sum_over-mul (pos (binom (length x + (length q + length z)) (length x))) (λ y. s x *ℤ t y) (shuffles q z)
     ∙ ap (λ (n : ℤ). pos (binom (length x + (length q + length z)) (length x)) *ℤ n) (sum_over-mul (s x) t (shuffles q z))
 
+-- over shuffles of two fronts and of two rests, the terms add up to the binomial times the product of both sums
 pub outer-cell : (s t : List ℕ → ℤ) (p q r z : List ℕ)
     → pair_over (weighted s t) p q r z ≡ pos (binom (length p + length r + (length q + length z)) (length p + length r)) *ℤ (over s p r *ℤ over t q z)
 outer-cell s t p q r z =
@@ -99,6 +103,7 @@ cell s t hs ht u v p q r z hu hv =
     ∙ sym (products (binom (a + c + (b + d)) (a + c)) (binom (a + c) a) (binom (b + d) b) (s p *ℤ t q) (s r *ℤ t z))
     ∙ ap₂ (λ (n m : ℕ). pos (binom (n + m) n) *ℤ (weighted s t p q *ℤ weighted s t r z)) hu hv
 
+-- the scaled product of two series that obey the shuffle relations obeys them, too
 pub product-obeys : (s t : List ℕ → ℤ) → ObeysShuffles s → ObeysShuffles t → ObeysShuffles (scaled_product s t)
 product-obeys s t hs ht u v =
     let g : List ℕ → List ℕ → ℤ = weighted s t in
@@ -114,10 +119,12 @@ product-obeys s t hs ht u v =
     ∙ sym (ap₂ ◌*ℤ◌ (scaled_product-cut s t u) (scaled_product-cut s t v)))
 
 -- ---- one move after another
+-- the series of 1 is 0 at each word that has letters
 pub unit-longer : (w : List ℕ) → 1 ≤ length w → unit w ≡ pos 0
 unit-longer [] h = absurd (omega arith)
 unit-longer (a ∷ w) h = refl
 
+-- the series of 1 obeys the shuffle relations
 pub unit-obeys : ObeysShuffles unit
 unit-obeys [] v = over-none_left unit v ∙ sym (one-mul_ℤ (pos 1 *ℤ unit v) ∙ one-mul_ℤ (unit v))
 unit-obeys (a ∷ u) v =

@@ -1,4 +1,4 @@
-//! The logarithm of a signature, exact, with the weight that bounds it.
+//! The logarithm of a signature, exact, with the weight that bounds it, and that of any bounded series.
 #![tactic(auto)]
 
 pub mod fault;
@@ -9,4 +9,4 @@ pub mod logarithm;
 mod tests;
 
 pub use fault::LogFault;
-pub use logarithm::log;
+pub use logarithm::{log, log_series};

@@ -1,9 +1,9 @@
-ghost use Rattle.std.specs.Prelude.{◌≡◌, ℕ, List, map, IfOk, IfErr, OnOk};
+ghost use Rattle.std.specs.Prelude.{◌≡◌, ℕ, List, [], map, pos, IfOk, IfErr, OnOk};
 ghost use Rattle.definitions.specs.Words.{IsWord, up_to};
 ghost use Rattle.definitions.specs.Moves.{Parts};
 ghost use Rattle.definitions.specs.Logarithm.{logarithm, log_bound as bound_factor};
 ghost use Rattle.scaled_tensor.specs.Tensors.{coefficient};
-ghost use Rattle.tensor_product.specs.Sigs.{StandsFor};
+ghost use Rattle.tensor_product.specs.Sigs.{IsBoundedBy, StandsFor};
 ghost use Rattle.exp_log.specs.Faults.{LogFits, IsRefusedBy};
 ghost use Rattle.exp_log.specs.Logs.{IsLogOf};
 
@@ -26,21 +26,22 @@ fn log_bounds(shape: Shape) -> Bound
     Bound::of(&factors[..depth])
 }
 
-/// The power series of the logarithm at a signature whose weight fits: the sum over m, from 1 to
-/// the depth, of the m-th powers of the signature less 1, each with its factor. The weight bounds
-/// each number on the way.
-fn power_series(alloc: Global, s: &Sig) -> Result<Tensor, Memory>
-    requires { LogFits s.now.weight s.now.tensor.extent.depth }
-    ensures extent { IfOk result (λ t. t.extent ≡ s.now.tensor.extent) }
-    ensures values { IfOk result (λ t. (word : List ℕ) → IsWord s.now.tensor.extent word → coefficient t word ≡ logarithm (coefficient s.now.tensor) word) }
+/// The logarithm of a series that is 1 at the empty word, and at a word of k letters at most the
+/// k-th power of a weight that fits: the sum over m, from 1 to the depth, of the m-th powers of the
+/// series less 1, each with its factor. The weight bounds each number on the way.
+pub fn log_series(alloc: Global, t: &Tensor, weight: u128) -> Result<Tensor, Memory>
+    requires starts { coefficient t.now [] ≡ pos 1 }
+    requires bounded { IsBoundedBy t.now weight }
+    requires fits { LogFits weight t.now.extent.depth }
+    ensures extent { IfOk result (λ log. log.extent ≡ t.now.extent) }
+    ensures values { IfOk result (λ log. (word : List ℕ) → IsWord t.now.extent word → coefficient log word ≡ logarithm (coefficient t.now) word) }
 {
-    let weight = s.weight();
-    let mut sum = Tensor::zero(alloc, s.tensor().shape())?;
+    let mut log = Tensor::zero(alloc, t.shape())?;
     if weight == 0 {
-        return Ok(sum);
+        return Ok(log);
     }
-    write_log(&mut sum, s.tensor(), weight);
-    Ok(sum)
+    write_log(&mut log, t, weight);
+    Ok(log)
 }
 
 /// The logarithm of a signature, with its weight. At a word of k letters the coefficient is over
@@ -57,7 +58,7 @@ pub fn log(alloc: Global, s: &Sig) -> Result<LogTensor, LogFault>
     if !log_bounds(s.tensor().shape()).fits(weight) {
         return Err(LogFault::Overflow(weight));
     }
-    let tensor = power_series(alloc, s)?;
+    let tensor = log_series(alloc, s.tensor(), weight)?;
     match LogTensor::of(tensor, weight) {
         Some(log) => Ok(log),
         None => unreachable!(),
