@@ -109,6 +109,7 @@ image-expands width depth hall e ok letters ex lex (a ∷ u) all short w =
     image-expands-with width depth hall e ok letters ex lex a u all short
     (λ v some. image-expands width depth hall e ok letters ex lex u (All-tail (IsLetter width) a u all) (omega arith) v) w
 
+-- expanded at a word, terms depend on the values of their members at this word alone
 pub expanded-at : (e : ℕ → List ℕ → ℤ) (ts : List Term) (w : List ℕ) → expanded (λ h v. e h w) ts [] ≡ expanded e ts w
 expanded-at e [] w = refl
 expanded-at e (t ∷ ts) w = ap (λ (z : ℤ). (t.factor *ℤ e t.number w) +ℤ z) (expanded-at e ts w)

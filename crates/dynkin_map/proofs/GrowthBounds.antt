@@ -6,7 +6,7 @@ use Rattle.std.proofs.lemmas.Bool.{eq-eqb}
 use Rattle.definitions.specs.Words.{words_of}
 use Rattle.definitions.specs.Sums.{sum_below, count_below}
 use Rattle.definitions.specs.Commutators.{sum_words}
-use Rattle.definitions.proofs.SumLaws.{sum_below-same, count_below-le, count_below-mul}
+use Rattle.definitions.proofs.SumLaws.{sum_below-pos, sum_below-same, count_below-le, count_below-mul}
 use Rattle.definitions.specs.Hall.{InHall, degree}
 use Rattle.definitions.specs.declared.member.Member.{Member}
 use Rattle.lie_bracket.specs.declared.term.Term.{Term}
@@ -31,12 +31,6 @@ image-size plus rest same (a ∷ u) = image-size-with plus rest same a u (image 
 pub majorant-coefficient : (depth : ℕ) (hall : List Member) (h : ℕ) (u : List ℕ) → coefficient h (image (majorant depth hall) u) ≡ pos (size_at h (image (bracket depth hall) u))
 majorant-coefficient depth hall h u =
     ap (coefficient h) (image-size (majorant depth hall) (bracket depth hall) (majorant-size depth hall) u) ∙ coefficient-size h (image (bracket depth hall) u)
-
--- a sum of naturals, as integers
-pub sum_below-pos : (n : ℕ) (g : ℕ → ℕ) → sum_below n (λ i. pos (g i)) ≡ pos (count_below n g)
-unfolding sum_below count_below
-sum_below-pos zero g = refl
-sum_below-pos (suc n) g = ap (λ (z : ℤ). z +ℤ pos (g n)) (sum_below-pos n g)
 
 -- ---- the growth
 -- no value at a member of degree k is above the greatest

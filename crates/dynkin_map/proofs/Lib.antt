@@ -1,3 +1,4 @@
+pub mod BoundLaws
 pub mod RowLaws
 pub mod WordSums
 pub mod RowSums
@@ -11,3 +12,4 @@ pub mod LongerWords
 pub mod GrowthSums
 pub mod WordRows
 pub mod HeavyLevels
+pub mod LogarithmsInCoordinates

@@ -1,0 +1,10 @@
+pub mod LevelWords
+pub mod Rooms
+pub mod LevelSteps
+pub mod Logarithms
+pub mod Signatures
+pub mod PartitionLaws
+pub mod Refusals
+pub mod Errors
+pub mod Products
+pub mod Parts
