@@ -70,9 +70,11 @@ in-order-edited v (Append name tick x) rows young order = in-order-with_row (rec
 in-order-edited v (Correct name x) rows young order = in-order-with_move name x rows order
 in-order-edited v (Remove name) rows young order = in-order-without name rows order
 
+-- an edit that stands where a list has none
 abbrev pub some_edit : Accepted
 some_edit = record { edit = Remove []; tick = 0 }
 
+-- the rows of each version stand in order
 pub rows-in-order : (log : LogValue) (v : ℕ) → IsLog log → v ≤ length log.edits → IsInOrder (rows_at log.edits v)
 rows-in-order log zero is within = none
 rows-in-order log (suc v) is within =

@@ -44,11 +44,16 @@ module _ (old new : List Accepted) (line after : PastValue) (rows changed : Rows
 
 -- the row at a place that was found
 pub record IsFound (o : Option RowValue) (tick birth : ℕ) : Type 0 where
+  -- the row
   pub row : RowValue
+  -- it is what was found
   pub is : o ≡ Some row
+  -- it stands at this tick
   pub at : row.tick ≡ tick
+  -- it has this birth
   pub born : row.birth ≡ birth
 
+-- where a place and a tick are found, there is a row with this tick and the birth of the place
 pub place-found : (o : Option RowValue) (place : ℕ × ℕ) (tick : ℕ) → Some place ≡ option_map place_of o → option_map (λ (row : RowValue). row.tick) o ≡ Some tick → IsFound o tick place.1
 place-found None place tick e f = absurd (cc)
 place-found (Some row) place tick e f =

@@ -34,15 +34,19 @@ pasts-push v (x ∷ xs) e rows =
     ap (λ (ps : List (List RowValue)). rows ∷ ps) (pasts-push (suc v) xs e (edited (suc v) x.edit rows))
     ∙ ap (λ (n : ℕ). rows ∷ (pasts (suc v) xs (edited (suc v) x.edit rows) ++ edited n e.edit (replayed (suc v) xs (edited (suc v) x.edit rows)) ∷ [])) count
 
+-- the rows of a version in the past of a log are those after so many edits
 pub rows-same : (edits : List Accepted) (v : ℕ) → v ≤ length edits → timeline_rows (past_of_log edits) v ≡ rows_at edits v
 rows-same edits v h = pasts-at 0 v edits [] h
 
+-- there is a tick for each edit
 pub count-same : (edits : List Accepted) → length (past_of_log edits).ticks ≡ length edits
 count-same edits = length-map edits (λ (e : Accepted). e.tick)
 
+-- the rows of the last version are the current ones
 pub current-same : (edits : List Accepted) → timeline_current (past_of_log edits) ≡ current_rows edits
 current-same edits = ap (λ (n : ℕ). get_or (pasts 0 edits []) n []) (count-same edits) ∙ rows-same edits (length edits) (omega arith)
 
+-- one edit more makes one version more, with the tick of the edit and the rows after it
 pub past-push : (edits : List Accepted) (e : Accepted) → past_of_log (edits ++ e ∷ []) ≡ with_version (past_of_log edits) e.tick (edited (length edits + 1) e.edit (current_rows edits))
 past-push edits e =
     let next : suc (0 + length edits) ≡ length edits + 1 = omega arith in
@@ -56,6 +60,7 @@ touch-is : (a b : ℕ) (edits : List Accepted) (v : ℕ) → v < length edits �
 touch-is a b edits v within =
     ap (touched a b edits) (sym (add-one v)) ∙ touched-next a b edits v some_edit within ∙ sym (ap (lies_in a b) (get_or-map (λ (e : Accepted). e.tick) edits v some_edit 0 within))
 
+-- the last version up to v that touches [a, b) is the same by the ticks as by the edits
 pub since-same : (a b : ℕ) (edits : List Accepted) (v : ℕ) → v ≤ length edits → timeline_since a b (map (λ (e : Accepted). e.tick) edits) v ≡ since a b edits v
 unfolding timeline_since
 since-same a b edits zero h = refl
@@ -89,6 +94,7 @@ since-touches a b edits v e = elim (cases_Bool (touched a b edits (suc v))) [
   | inr other ↦ absurd (omega (arith, ap (λ c. cond c (suc v) (since a b edits v)) other, e, since-bound a b edits v))
 ]
 
+-- if the last version that touches [a, b) is at most v, none after v touches it
 pub none-after : (a b : ℕ) (edits : List Accepted) (v : ℕ) → timeline_since a b (map (λ (e : Accepted). e.tick) edits) (length (map (λ (e : Accepted). e.tick) edits)) ≤ v
     → (t : ℕ) → v < t → t ≤ length edits → touched a b edits t ≡ false
 none-after a b edits v h t after within =
@@ -96,6 +102,7 @@ none-after a b edits v h t after within =
     omega (arith, h, ap (timeline_since a b (map (λ (e : Accepted). e.tick) edits)) (count-same edits), since-same a b edits (length edits) (omega arith)) in
     since-untouched a b edits (length edits) t (omega (arith, last, after)) within
 
+-- the first version after v that touches [a, b) by the ticks is so by the edits
 pub first-same : (a b : ℕ) (edits : List Accepted) (v t : ℕ) → IsFirstAfter a b (map (λ (e : Accepted). e.tick) edits) v t → IsFirstTouch a b edits v t
 first-same a b edits v zero f = absurd (omega (arith, f.later))
 first-same a b edits v (suc u) f =
@@ -120,12 +127,15 @@ module _ (log : LogValue) (is : IsLog log) (room : length log.edits + 1 < 2 ^ 31
   young : All (λ (row : RowValue). row.birth < 2 ^ 31) now-rows
   young = All-weaker (λ (row : RowValue). row.birth < length log.edits + 1) (λ (row : RowValue). row.birth < 2 ^ 31) (λ row h. omega (arith, h, room)) now-rows births
 
+  -- an append puts the new row at the key of its tick and of the next version
   pub append-change : (name : List ℕ) (tick : ℕ) (x : Parts)
       → edited (length log.edits + 1) (Append name tick x) now-rows ≡ with_at (key_at tick (length log.edits + 1)) ((record { name = name; tick = tick; birth = length log.edits + 1; x = x }) ∷ []) now-rows
   append-change name tick x = appended-at (record { name = name; tick = tick; birth = length log.edits + 1; x = x }) now-rows (rows-in-order log (length log.edits) is (omega arith)) room births
 
+  -- a correction puts the row with its new move at the row's key
   pub correct-change : (name : List ℕ) (x : Parts) (r : RowValue) → row_of name now-rows ≡ Some r → edited (length log.edits + 1) (Correct name x) now-rows ≡ with_at (key_of r) (record r { x = x } ∷ []) now-rows
   correct-change name x r at = corrected-at name r x now-rows (rows-in-order log (length log.edits) is (omega arith)) (distinct-names log (length log.edits) is) young at
 
+  -- a removal leaves no row at the row's key
   pub remove-change : (name : List ℕ) (r : RowValue) → row_of name now-rows ≡ Some r → edited (length log.edits + 1) (Remove name) now-rows ≡ with_at (key_of r) [] now-rows
   remove-change name r at = removed-at name r now-rows (rows-in-order log (length log.edits) is (omega arith)) (distinct-names log (length log.edits) is) young at

@@ -27,6 +27,7 @@ moves-edited extent v (Append name tick x) rows edit all = All-with_row (HasMove
 moves-edited extent v (Correct name x) rows edit all = All-with_move (HasMove extent) name x rows (λ r here. edit) all
 moves-edited extent v (Remove name) rows edit all = All-filter (λ row. not (is_named name row)) (HasMove extent) rows all
 
+-- each row of a version has a move of the extent
 pub rows-have_moves : (log : LogValue) (v : ℕ) → IsLog log → v ≤ length log.edits → All (λ row. IsMove log.extent row.x) (rows_at log.edits v)
 rows-have_moves log zero is within = All-nil (HasMove log.extent)
 rows-have_moves log (suc v) is within =
@@ -53,6 +54,7 @@ few-edited v (Append name tick x) rows = omega (arith, with_row-length (record {
 few-edited v (Correct name x) rows = omega (arith, length-map rows (λ (row : RowValue). cond (is_named name row) (record row { x = x }) row))
 few-edited v (Remove name) rows = omega (arith, without-fewer name rows)
 
+-- version v has at most v rows
 pub rows-few : (edits : List Accepted) (v : ℕ) → v ≤ length edits → length (rows_at edits v) ≤ v
 rows-few edits zero within = omega arith
 rows-few edits (suc v) within =

@@ -81,6 +81,14 @@ impl EditLog {
         &self.rows
     }
 
+    /// The edits alone. Takes no memory.
+    pub fn into_edits(self) -> Vec<Accepted>
+        ensures value { result.items ≡ self.edits }
+        ensures log { IsLog self }
+    {
+        self.edits
+    }
+
     /// A copy of this edit, which the current rows accept, is the last one from now on; its row has this tick.
     /// Answers the version that it makes. Want of memory, or of numbers for versions, leaves the log as it was.
     pub fn commit(&mut self, alloc: Global, e: &Edit, tick: u64) -> Result<u64, Memory>

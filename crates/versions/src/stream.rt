@@ -1,8 +1,8 @@
 ghost use Rattle.std.specs.Prelude.{◌≡◌, [], length, false, OnOk, OnErr, IfOk, IfSome, IfNone};
-ghost use Rattle.versions.specs.Versions.{IsEdit, IsAccepted, accepts, current_rows, edit_reply, after_edit, refusal};
+ghost use Rattle.versions.specs.Versions.{IsLog, IsEdit, IsAccepted, accepts, current_rows, edit_reply, after_edit, refusal};
 
 use crate::edit::{Edit, EditReply};
-use crate::log::EditLog;
+use crate::log::{Accepted, EditLog};
 use increments::Rows;
 use std::alloc::Global;
 use std::marker::Model;
@@ -76,6 +76,14 @@ impl Stream {
         ensures { result.now ≡ self.now }
     {
         &self.log
+    }
+
+    /// The accepted edits alone, with the ticks of their rows. Takes no memory.
+    pub fn into_edits(self) -> Vec<Accepted>
+        ensures value { result.items ≡ self.edits }
+        ensures log { IsLog self }
+    {
+        self.log.into_edits()
     }
 
     /// An edit is accepted, and makes the next version, or refused, and nothing changes.

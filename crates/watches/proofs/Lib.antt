@@ -1,0 +1,4 @@
+mod Holders
+mod Cuts
+mod Touching
+mod Feeds

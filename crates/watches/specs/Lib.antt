@@ -1,0 +1,3 @@
+pub mod Watches
+pub mod Spans
+pub mod Lists
