@@ -10,11 +10,17 @@ use Rattle.script_reader.proofs.Kept.{within_limits, keeps_command}
 
 -- with this tally and these sessions, and the rest of the commands still to be added
 pub record IsAdding (first : Tally) (firsts : List (List Command)) (all : List Command) (t : Tally) (sessions : List (List Command)) (rest : List Command) : Type 0 where
+  -- a session has begun
   pub opened : 0 < t.sessions
+  -- the tally and the sessions keep what is kept while a script is read
   pub kept : Keeps t sessions
+  -- the commands that are left are of the shape
   pub good : All (IsCommand (named t.shape)) rest
+  -- none of them meets a limit
   pub within : limit_reason t rest ≡ None
+  -- with them the tally comes to that of all
   pub tallied : with_commands t rest ≡ with_commands first all
+  -- with them the sessions come to those of all
   pub added : all_onto_last sessions rest ≡ all_onto_last firsts all
 
 -- one command was added

@@ -109,6 +109,7 @@ pub counts-all : (extent : Extent) (n : ℕ) (counts : List ℕ) → counts ≡ 
 unfolding degree_counts
 counts-all extent n counts e is = e ∙ ap (λ k. map (members_to extent) (up_to k)) is
 
+-- there is a count for each degree up to the depth
 pub degree_counts-length : (extent : Extent) → length (degree_counts extent) ≡ extent.depth
 unfolding degree_counts
 degree_counts-length extent = valued-length (members_to extent) extent.depth
@@ -119,8 +120,11 @@ degree_counts-at extent i h = valued-at (members_to extent) extent.depth i h
 
 -- a degree up to which there are n members
 pub record IsDegree (extent : Extent) (n q : ℕ) : Type 0 where
+  -- it is at least 1
   pub some : 1 ≤ q
+  -- it is at most the depth
   pub within : q ≤ extent.depth
+  -- n members have at most this degree
   pub count : members_to extent q ≡ n
 
 -- a number that comes after another
@@ -128,6 +132,7 @@ after-Some : (place : Option ℕ) (q : ℕ) → option_map suc place ≡ Some q 
 after-Some None q e = cc
 after-Some (Some k) q e = (k, (refl, cc))
 
+-- the degree that is found for n coordinates is one up to which there are n members
 pub degree_with-Some : (extent : Extent) (n q : ℕ) → degree_with extent n ≡ Some q → IsDegree extent n q
 unfolding degree_with
 degree_with-Some extent n q e =

@@ -1,9 +1,10 @@
 -- What the fields of a line spell.
-use Rattle.std.proofs.Common.{◌≡◌, ℕ, ◌*◌, ◌≤◌, Bool, true, false, ◌&&◌, nat_eq, nat_le, if◌then◌else◌, List, [], ◌∷◌, Option, Some, None, is_some, unwrap_or, IfSome, MatchOption, ℤ, refl, arith}
+use Rattle.std.proofs.Common.{◌≡◌, ℕ, ◌*◌, ◌≤◌, Bool, true, false, ◌&&◌, nat_eq, nat_le, if◌then◌else◌, List, [], ◌∷◌, Option, Some, None, is_some, unwrap_or, IfSome, MatchOption, ℤ, refl, arith, All}
 use Rattle.std.specs.List.{before_first, after_first}
 use Rattle.std.proofs.lemmas.Bool.Decides.{nat_tests}
+use Rattle.std.proofs.lemmas.List.Elements.{All-nil, All-cons}
 use Rattle.spellings.specs.Numbers.{is_plain, value_of, is_denominator, plain_up_to, whole_of, tick_up_to}
-use Rattle.script_reader.specs.Fields.{is_number, is_version, is_tick, are_entries, tick_or_zero, entries_of}
+use Rattle.script_reader.specs.Fields.{is_number, is_version, is_tick, tick_or_zero, are_ticks, ticks_of, are_entries, entries_of}
 
 -- an answer that is there exactly where the test holds, and is then within a bound
 abbrev IsGiven : Bool → ℕ → ℕ → Option ℕ → Type 0
@@ -39,10 +40,25 @@ option_is : (o : Option ℕ) (most : ℕ) → IfSome o (λ n. n ≤ most) → Is
 option_is None most h = refl
 option_is (Some n) most h = (refl, refl, h)
 
+-- an answer within a bound, or 0
+or_zero_within : (o : Option ℕ) (most : ℕ) → IfSome o (λ n. n ≤ most) → unwrap_or o 0 ≤ most
+or_zero_within None most h = omega arith
+or_zero_within (Some n) most h = h
+
 -- the tick that a word spells, or that it spells none
 pub tick_is : (most : ℕ) (word : List ℕ) (n : Option ℕ) → n ≡ tick_up_to most word → MatchOption n (is_tick most word ≡ false) (λ t. (is_tick most word ≡ true) × (t ≡ tick_or_zero most word) × (t ≤ most))
 unfolding is_tick tick_or_zero
 tick_is most word n e = rw e (option_is (tick_up_to most word) most (tick_within most word))
+
+-- no tick is beyond the bound
+tick_or_zero-within : (most : ℕ) (word : List ℕ) → tick_or_zero most word ≤ most
+unfolding tick_or_zero
+tick_or_zero-within most word = or_zero_within (tick_up_to most word) most (tick_within most word)
+
+-- each tick of times is within the bound
+pub ticks_of-within : (most : ℕ) (words : List (List ℕ)) → All (λ t. t ≤ most) (ticks_of most words)
+ticks_of-within most [] = All-nil (λ t. t ≤ most)
+ticks_of-within most (word ∷ words) = All-cons (λ t. t ≤ most) (tick_or_zero most word) (ticks_of most words) (tick_or_zero-within most word) (ticks_of-within most words)
 
 -- an answer that a test guards, by its value
 chosen_is : (t : Bool) (v most : ℕ) → (t ≡ true → v ≤ most) → IsGiven (is_some (if t then Some v else None)) v most (if t then Some v else None)
@@ -77,3 +93,18 @@ entry_found word words x e = rw (← e) (refl, refl)
 pub no_entries : are_entries [] ≡ true
 unfolding are_entries
 no_entries = refl
+
+-- a word that is no time
+pub tick_missing : (most : ℕ) (word : List ℕ) (words : List (List ℕ)) → None ≡ tick_up_to most word → are_ticks most (word ∷ words) ≡ false
+unfolding are_ticks is_tick
+tick_missing most word words e = rw (← e) refl
+
+-- a time, and the words after it
+pub tick_found : (most : ℕ) (word : List ℕ) (words : List (List ℕ)) (tick : ℕ) → Some tick ≡ tick_up_to most word → (are_ticks most (word ∷ words) ≡ are_ticks most words) × (ticks_of most (word ∷ words) ≡ tick ∷ ticks_of most words)
+unfolding are_ticks is_tick tick_or_zero
+tick_found most word words tick e = rw (← e) (refl, refl)
+
+-- no words are times, all of them
+pub no_ticks : (most : ℕ) → are_ticks most [] ≡ true
+unfolding are_ticks
+no_ticks most = refl

@@ -2,6 +2,7 @@ mod Examples
 mod Fields
 mod Degrees
 mod RowLines
+mod Partitions
 mod Tallies
 mod Kept
 mod Adding

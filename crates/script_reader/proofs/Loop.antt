@@ -14,12 +14,19 @@ use Rattle.script_reader.proofs.Kept.{keeps_next}
 
 -- after so many lines, with this rest: what is still to be found out, and what the lines before say
 pub record IsReading (bytes : List ℕ) (number : ℕ) (rest : List ℕ) (t : Tally) (sessions : List (List Command)) : Type 0 where
+  -- the content lines before the rest
   pub earlier : List (List ℕ)
+  -- the first bad line of all is the first one of the rest, after these lines
   pub first : first_bad 0 [] (lines_of bytes) ≡ first_bad number earlier (lines_of rest)
+  -- all content lines are these, then those of the rest
   pub content : filter is_content (lines_of bytes) ≡ earlier ++ filter is_content (lines_of rest)
+  -- what they say comes to this tally
   pub tallied : tally earlier ≡ t
+  -- they say these sessions, and the shape in the tally
   pub scripted : script_of earlier ≡ record { extent = named t.shape; sessions = sessions }
+  -- the tally and the sessions keep what is kept while a script is read
   pub kept : Keeps t sessions
+  -- each line before the rest took one byte at least
   pub passed : number + length rest ≤ length bytes
 
 -- a line is passed over, or judged

@@ -17,16 +17,23 @@ use Rattle.script_reader.specs.Reading.{IsOfForm}
 
 -- where a command may stand, in a script of this shape
 pub record IsOpen (before : Tally) (shape : Extent) : Type 0 where
+  -- a session was opened
   pub opened : nat_lt 0 before.sessions ≡ true
+  -- the script has named this shape
   pub shaped : before.shape ≡ Some shape
 
 -- coordinates from a place on, and the move that they make
 pub record AreCoordinates (shape : Extent) (words : List (List ℕ)) (x : Parts) : Type 0 where
+  -- a Lie element can be given by so many
   pub counted : is_count shape (length words) ≡ true
+  -- each word spells an entry
   pub entries : are_entries words ≡ true
+  -- x is a move of the shape
   pub move : IsMove shape x
+  -- it is the one with these coordinates
   pub is : x ≡ lie_move shape (entries_of words)
 
+-- an append line with a name, a tick and coordinates says that this row is appended
 pub append_reads : (before : Tally) (words : List (List ℕ)) (shape : Extent) (name : List ℕ) (tick : ℕ) (x : Parts) → IsOpen before shape → AreCoordinates shape (drop 3 words) x
     → is_name (field 1 words) ≡ true → name ≡ field 1 words → is_tick 4294967295 (field 2 words) ≡ true → tick ≡ tick_or_zero 4294967295 (field 2 words) → tick < 4294967296
     → IsOfForm append_form before words (sayings.Command (commands.Edit (edits.Append name tick x)))
@@ -38,6 +45,7 @@ append_reads before words shape name tick x opening row named' name-is timed tic
       says = rw (name-is, tick-is, row.is, opening.shaped) refl;
     }
 
+-- a correct line with a name and coordinates says that the row of this name gets this move
 pub correct_reads : (before : Tally) (words : List (List ℕ)) (shape : Extent) (name : List ℕ) (x : Parts) → IsOpen before shape → AreCoordinates shape (drop 2 words) x
     → is_name (field 1 words) ≡ true → name ≡ field 1 words
     → IsOfForm correct_form before words (sayings.Command (commands.Edit (edits.Correct name x)))

@@ -36,6 +36,14 @@ is_tick most word = is_some (tick_up_to most word)
 unfoldable pub tick_or_zero : ℕ → List ℕ → ℕ
 tick_or_zero most word = unwrap_or (tick_up_to most word) 0
 
+-- whether each word is a time whose tick is within the bound
+unfoldable pub are_ticks : ℕ → List (List ℕ) → Bool
+are_ticks most words = list_all (is_tick most) words
+
+-- the ticks of times
+abbrev pub ticks_of : ℕ → List (List ℕ) → List ℕ
+ticks_of most words = map (tick_or_zero most) words
+
 -- whether each word is a whole number in range
 unfoldable pub are_entries : List (List ℕ) → Bool
 are_entries words = list_all (λ word. is_some (whole_of word)) words

@@ -1,11 +1,12 @@
 -- The forms of content lines: for each of them where it may stand, what its words are, and what it says.
-use Rattle.std.specs.Prelude.{ℕ, ◌+◌, ◌-◌, ◌^◌, Bool, ◌&&◌, ◌||◌, ◌==◌, nat_lt, nat_le, if◌then◌else◌, List, [], ◌∷◌, drop, length, codes, Option, Some, None, is_some, is_none}
+use Rattle.std.specs.Prelude.{ℕ, ◌+◌, ◌-◌, ◌^◌, Bool, true, ◌&&◌, ◌||◌, ◌==◌, nat_lt, nat_le, if◌then◌else◌, List, [], ◌∷◌, drop, length, codes, Option, Some, None, is_some, is_none}
 use Rattle.std.specs.Str.{bytes_eq}
 use Rattle.definitions.specs.Words.{Extent}
 use Rattle.spellings.specs.Numbers.{value_of}
 use Rattle.spellings.specs.Names.{is_name}
 use Rattle.versions.specs.declared.edit.Edit.TheVariants as edits
 use Rattle.script_reader.specs.declared.command.Ask.{Ask}
+use Rattle.script_reader.specs.declared.command.Command.{Command}
 use Rattle.script_reader.specs.declared.command.Command.TheVariants as commands
 use Rattle.script_reader.specs.declared.command.Kind.{Kind}
 use Rattle.script_reader.specs.declared.command.Kind.TheVariants as kinds
@@ -13,10 +14,10 @@ use Rattle.script_reader.specs.declared.said.Said.{Said}
 use Rattle.script_reader.specs.declared.said.Said.TheVariants as sayings
 use Rattle.script_reader.specs.declared.tally.Tally.{Tally}
 use Rattle.script_reader.specs.declared.keyword.Keyword.{Keyword}
-use Rattle.script_reader.specs.declared.keyword.Keyword.TheVariants.{Shape, Session, Append, Correct, Remove, Sig, Log}
+use Rattle.script_reader.specs.declared.keyword.Keyword.TheVariants.{Shape, Session, Append, Correct, Remove, Sig, Log, Parts}
 use Rattle.script_reader.specs.declared.fault.Reason.{Reason}
 use Rattle.script_reader.specs.declared.fault.Reason.TheVariants as reasons
-use Rattle.script_reader.specs.Fields.{field, unless, first_of, is_number, is_version, is_tick, tick_or_zero, are_entries, entries_of}
+use Rattle.script_reader.specs.Fields.{field, unless, first_of, is_number, is_version, is_tick, tick_or_zero, are_ticks, ticks_of, are_entries, entries_of}
 use Rattle.script_reader.specs.Coordinates.{is_count, lie_move}
 use Rattle.script_reader.specs.Limits.{named, total_words}
 
@@ -147,6 +148,43 @@ query_form kind = record {
   says = λ extent words. sayings.Command (commands.Ask (ask_of kind words));
 }
 
+-- ---- the logarithms of a partition
+-- whether none of these ticks exceeds the next one, nor `from` the first
+abbrev pub rises_from : ℕ → List ℕ → Bool
+rises_from from [] = true
+rises_from from (to ∷ ticks) = nat_le from to && rises_from to ticks
+
+-- what is asked of an interval, at a resolution and a version
+abbrev pub query_over : ℕ → ℕ → Kind → ℕ → ℕ → Command
+query_over r version kind from to = commands.Ask (record { kind = kind; from = from; to = to; r = r; version = Some version })
+
+-- the logarithm of each interval that these ticks end, the first of which begins at `from`; and then the signature from `start` to the last tick
+abbrev pub queries_from : ℕ → ℕ → ℕ → ℕ → List ℕ → List Command
+queries_from r version start from [] = query_over r version kinds.Sig start from ∷ []
+queries_from r version start from (to ∷ ticks) = query_over r version kinds.Log from to ∷ queries_from r version start to ticks
+
+-- the logarithm of each interval between these ticks, and then the signature of all of them together
+abbrev pub partition_queries : ℕ → ℕ → List ℕ → List Command
+partition_queries r version [] = []
+partition_queries r version (start ∷ ticks) = queries_from r version start start ticks
+
+-- a line that asks for the logarithms of a partition into 1 to 64 intervals, whose words from the fourth on are the times between them
+abbrev pub parts_form : Form
+parts_form = record {
+  may_stand = is_opened;
+  has_words = λ extent words. nat_le 5 (length words) && nat_le (length words) 68;
+  fields = λ words.
+      unless (is_number (field 1 words)) reasons.Number
+      ∷ unless (is_version (field 2 words)) reasons.Number
+      ∷ unless (are_ticks (2 ^ 32) (drop 3 words)) reasons.Time
+      ∷ [];
+  values = λ before words.
+      unless (rises_from 0 (ticks_of (2 ^ 32) (drop 3 words))) reasons.Interval
+      ∷ unless (nat_le (value_of (field 1 words)) 16) reasons.Resolution
+      ∷ [];
+  says = λ extent words. sayings.Commands (partition_queries (value_of (field 1 words)) (value_of (field 2 words)) (ticks_of (2 ^ 32) (drop 3 words)));
+}
+
 -- ---- all forms
 -- the keyword that a word is
 abbrev pub keyword_of : List ℕ → Option Keyword
@@ -158,6 +196,7 @@ keyword_of word =
     else if bytes_eq word (codes "remove") then Some Remove
     else if bytes_eq word (codes "sig") then Some Sig
     else if bytes_eq word (codes "log") then Some Log
+    else if bytes_eq word (codes "parts") then Some Parts
     else None
 
 -- the form of the lines that begin with a keyword
@@ -169,3 +208,4 @@ form_of Correct = correct_form
 form_of Remove = remove_form
 form_of Sig = query_form kinds.Sig
 form_of Log = query_form kinds.Log
+form_of Parts = parts_form

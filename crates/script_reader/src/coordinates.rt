@@ -20,7 +20,7 @@ fn members_to(members: &[Member], degree: u32) -> usize
 }
 
 /// How many members of the Hall set of a shape have degree at most 1, 2, .. up to its depth.
-pub(crate) fn counts_of(alloc: Global, shape: Shape) -> Result<Vec<usize>, Memory>
+pub fn counts_of(alloc: Global, shape: Shape) -> Result<Vec<usize>, Memory>
     ensures { IfOk result (λ counts. counts.items ≡ degree_counts shape) }
 {
     let set = HallSet::build(alloc, shape)?;
@@ -41,7 +41,7 @@ fn place_of(counts: &[usize], coordinates: usize) -> Option<usize>
 
 /// The least degree up to which a shape has so many coordinates, if there is one.
 #[tactic(auto, unfolding(crate::specs::Coordinates::degree_with))]
-pub(crate) fn degree_with(shape: Shape, counts: &[usize], coordinates: usize) -> Option<usize>
+pub fn degree_with(shape: Shape, counts: &[usize], coordinates: usize) -> Option<usize>
     requires { counts.now ≡ degree_counts shape }
     ensures value { result ≡ degree_with shape coordinates }
     ensures some { IfSome result (λ _. 1 ≤ coordinates) }
@@ -69,7 +69,7 @@ fn cut(alloc: Global, places: &[usize], coordinates: Vec<i64>) -> Result<Vec<Ent
 }
 
 /// The move with these coordinates, which are all up to this degree.
-pub(crate) fn lie_move(
+pub fn lie_move(
     alloc: Global,
     shape: Shape,
     counts: &[usize],

@@ -1,3 +1,6 @@
+ghost use Rattle.std.specs.Prelude.{◌≡◌};
+ghost use Rattle.script_reader.specs.Reading.{fault_at};
+
 use std::alloc::{AllocError, AllocFailed};
 use words::Memory;
 
@@ -53,11 +56,21 @@ pub enum ScriptFault {
 
 /// Why a line isn't read.
 #[derive(Drop)]
-pub(crate) enum LineFault {
+pub enum LineFault {
     /// It is bad, for this reason.
     Bad(Reason),
     /// Want of memory.
     Memory,
+}
+
+/// The fault of a text whose line of this number is refused so.
+pub fn fault_at(number: u64, fault: LineFault) -> ScriptFault
+    ensures { result ≡ fault_at number fault }
+{
+    match fault {
+        LineFault::Bad(reason) => ScriptFault::Line(number, reason),
+        LineFault::Memory => ScriptFault::Memory,
+    }
 }
 
 impl From<AllocError> for LineFault {

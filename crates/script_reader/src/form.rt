@@ -9,8 +9,9 @@ ghost use Rattle.script_reader.specs.Lines.{is_allowed_byte, reason_after};
 ghost use Rattle.script_reader.specs.Reading.{IsRefusal, IsTally, Reads, IsSaid};
 
 mod edits;
-mod fields;
-mod openings;
+pub(crate) mod fields;
+pub(crate) mod openings;
+mod partitions;
 mod queries;
 
 use crate::command::Kind;
@@ -18,6 +19,7 @@ use crate::fault::{LineFault, Reason};
 use crate::form::edits::{read_append, read_correct, read_remove};
 use crate::form::fields::word_at;
 use crate::form::openings::{read_session, read_shape};
+use crate::form::partitions::read_parts;
 use crate::form::queries::read_query;
 use crate::keyword::{Keyword, keyword_of};
 use crate::said::Said;
@@ -45,6 +47,7 @@ fn read_form(
         Keyword::Remove => read_remove(alloc, tally, words),
         Keyword::Sig => read_query(tally, Kind::Sig, words),
         Keyword::Log => read_query(tally, Kind::Log, words),
+        Keyword::Parts => read_parts(alloc, tally, words),
     }
 }
 
@@ -66,7 +69,7 @@ fn is_allowed_byte(byte: u8) -> bool
 }
 
 /// Whether each byte may stand in a content line.
-fn has_allowed_bytes(line: &[u8]) -> bool
+pub fn has_allowed_bytes(line: &[u8]) -> bool
     ensures { result ≡ list_all is_allowed_byte line.now }
 {
     line.iter().all(|byte| is_allowed_byte(*byte))

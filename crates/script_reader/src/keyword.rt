@@ -11,6 +11,7 @@ pub enum Keyword {
     Remove,
     Sig,
     Log,
+    Parts,
 }
 
 /// The keyword that this word is.
@@ -25,6 +26,7 @@ pub(crate) fn keyword_of(word: &[u8]) -> Option<Keyword>
         b"remove" => Some(Keyword::Remove),
         b"sig" => Some(Keyword::Sig),
         b"log" => Some(Keyword::Log),
+        b"parts" => Some(Keyword::Parts),
         _ => None,
     }
 }

@@ -6,6 +6,7 @@ mod coordinates;
 pub mod fault;
 mod form;
 mod keyword;
+pub mod lines;
 mod reader;
 mod said;
 pub mod script;

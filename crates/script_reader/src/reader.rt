@@ -4,21 +4,21 @@ ghost use Rattle.script_reader.specs.Coordinates.{degree_counts};
 ghost use Rattle.script_reader.specs.Limits.{named, commands_of, nothing_said, with_command, with_commands, with_said, limit_reason};
 ghost use Rattle.script_reader.specs.Lines.{reason_after};
 ghost use Rattle.script_reader.specs.Script.{onto_last, all_onto_last, sessions_with, parse};
-ghost use Rattle.script_reader.specs.Reading.{IsRefusal, fault_at, IsNext, Keeps, Takes};
+ghost use Rattle.script_reader.specs.Reading.{IsRefusal, IsNext, Keeps, Takes};
 
 use crate::command::{Command, Commands};
 use crate::coordinates::counts_of;
-use crate::fault::{LineFault, Reason, ScriptFault};
+use crate::fault::{LineFault, Reason, ScriptFault, fault_at};
 use crate::form::read_line;
 use crate::said::Said;
 use crate::script::Script;
 use crate::tally::Tally;
-use spellings::{is_content, split_line};
+use spellings::{is_content, line_at};
 use std::alloc::Global;
 use words::Memory;
 
 /// The most bytes of a script.
-const MOST_BYTES: usize = 4_194_304;
+pub const MOST_BYTES: usize = 4_194_304;
 
 /// A script as far as it was read.
 #[derive(Drop)]
@@ -27,16 +27,6 @@ struct Reader {
     /// How many coordinates the shape has up to each degree.
     counts: Vec<usize>,
     sessions: Vec<Commands>,
-}
-
-/// The fault of a script whose line of this number is refused so.
-fn fault_at(number: u64, fault: LineFault) -> ScriptFault
-    ensures { result ≡ fault_at number fault }
-{
-    match fault {
-        LineFault::Bad(reason) => ScriptFault::Line(number, reason),
-        LineFault::Memory => ScriptFault::Memory,
-    }
 }
 
 impl Reader {
@@ -152,10 +142,11 @@ pub fn read_script(alloc: Global, bytes: &[u8]) -> Result<Script, ScriptFault>
     }
     let mut reader = Reader::new(alloc);
     let mut number = 0;
-    let mut rest = bytes;
-    while let Some((line, after)) = split_line(rest) {
+    let mut from = 0;
+    while let Some((end, after)) = line_at(bytes, from) {
+        let line = &bytes[from..end];
         number += 1;
-        rest = after;
+        from = after;
         if is_content(line) {
             if let Err(fault) = reader.read(alloc, line) {
                 return Err(fault_at(number, fault));

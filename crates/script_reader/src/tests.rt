@@ -17,7 +17,7 @@ fn repeated(alloc: Global, head: &str, line: &str, count: u32) -> Result<Vec<u8>
 }
 
 /// Scripts whose fault is in their first lines, with the bad line and its reason.
-const FIRST_LINES: [(&str, u64, Reason); 31] = [
+const FIRST_LINES: [(&str, u64, Reason); 32] = [
     ("", 1, Reason::End),
     ("\n", 2, Reason::End),
     ("\r", 2, Reason::End),
@@ -34,6 +34,7 @@ const FIRST_LINES: [(&str, u64, Reason); 31] = [
     ("shape 2 2\n\nshape", 3, Reason::Place),
     ("shape 2 2\nappend a", 2, Reason::Place),
     ("shape 2 2\ncorrect a", 2, Reason::Place),
+    ("shape 2 2\nparts", 2, Reason::Place),
     ("shape x y z", 1, Reason::Fields),
     ("shape x", 1, Reason::Fields),
     ("shape 2 x", 1, Reason::Number),
@@ -63,7 +64,7 @@ fn first_lines(rt: HostRuntime) {
 }
 
 /// Lines after `shape 2 2` and `session 1`, with the bad line of the script and its reason.
-const COMMANDS: [(&str, u64, Reason); 41] = [
+const COMMANDS: [(&str, u64, Reason); 51] = [
     ("appends a 0 2 3", 3, Reason::Keyword),
     ("session", 3, Reason::Fields),
     ("session 1", 3, Reason::Session),
@@ -105,6 +106,24 @@ const COMMANDS: [(&str, u64, Reason); 41] = [
     ("append a 0 2 3 9223372036854775808", 3, Reason::Number),
     ("correct 1 - - - -", 3, Reason::Fields),
     ("correct a 2 3 -", 3, Reason::Number),
+    ("parts 1 2 0", 3, Reason::Fields),
+    ("parts x y z w", 3, Reason::Number),
+    ("parts 1 18446744073709551616 x y", 3, Reason::Number),
+    ("parts 1 -2 0 1", 3, Reason::Number),
+    ("parts 17 2 1 0 x", 3, Reason::Time),
+    ("parts 1 2 0 65537", 3, Reason::Time),
+    ("parts 17 2 0 1 1/2", 3, Reason::Interval),
+    ("parts 17 2 0 1", 3, Reason::Resolution),
+    (
+        "parts 16 2 0 0 65536\nparts 4294967296 2 0 1",
+        4,
+        Reason::Number,
+    ),
+    (
+        "parts 0 18446744073709551615 1 1\npart 0 0 0 1",
+        4,
+        Reason::Keyword,
+    ),
 ];
 
 #[test]
@@ -250,6 +269,76 @@ fn limits(rt: HostRuntime) -> Result<(), Fail> {
     ] {
         let bytes = repeated(rt.alloc(), head, line, count)?;
         assert_eq!(rt; fault_of(rt.alloc(), &bytes), fault, "{count} of {line}");
+    }
+    Ok(())
+}
+
+#[test]
+fn partitions(rt: HostRuntime) -> Result<(), Fail> {
+    for (times, fault) in [
+        (1, Some(ScriptFault::Line(3, Reason::Fields))),
+        (2, None),
+        (65, None),
+        (66, Some(ScriptFault::Line(3, Reason::Fields))),
+    ] {
+        let bytes = repeated(rt.alloc(), "shape 2 2\nsession 1\nparts 3 9", " 1/2", times)?;
+        assert_eq!(rt; fault_of(rt.alloc(), &bytes), fault, "{times} times");
+    }
+    let text = "shape 2 2\nsession 1\nparts 3 9 1/4 1/2 1/2 65536";
+    let script = read_script(rt.alloc(), text.as_bytes())
+        .ok()
+        .ok_or("refused")?;
+    let due = [
+        (Kind::Log, 16_384, 32_768),
+        (Kind::Log, 32_768, 32_768),
+        (Kind::Log, 32_768, 4_294_967_296),
+        (Kind::Sig, 16_384, 4_294_967_296),
+    ];
+    let commands = script.sessions()[0].list();
+    assert_eq!(rt; commands.len(), due.len());
+    for (command, (kind, from, to)) in commands.iter().zip(due) {
+        let Command::Ask(ask) = command else {
+            return Err(Fail::from("no query"));
+        };
+        assert_eq!(rt; ask.kind, kind);
+        assert_eq!(rt;
+            (ask.from, ask.to, ask.r, ask.version),
+            (from, to, 3, Some(9))
+        );
+    }
+    Ok(())
+}
+
+#[test]
+fn limits_inside_a_line(rt: HostRuntime) -> Result<(), Fail> {
+    // The shapes have 2 and 1,885 words.
+    let narrow = "shape 1 1\nsession 1\n";
+    let wide = "shape 12 3\nsession 1\n";
+    let row = "append a 0 1 1 1 1 1 1 1 1 1 1 1 1\n";
+    let query = "sig 0 0 0\n";
+    for (head, line, count, last, reason) in [
+        (narrow, query, 65_534, "parts 0 0 0 0", None),
+        (
+            narrow,
+            query,
+            65_535,
+            "parts 0 0 0 0",
+            Some(Reason::Commands),
+        ),
+        (wide, row, 4_242, "parts 0 0 0 0", None),
+        (wide, row, 4_243, "parts 0 0 0 0", Some(Reason::Load)),
+        (wide, query, 1_058, "parts 0 0 0 0 0", None),
+        (wide, query, 1_059, "parts 0 0 0 0", None),
+        (wide, query, 1_059, "parts 0 0 0 0 0", Some(Reason::Answers)),
+    ] {
+        let mut bytes = repeated(rt.alloc(), head, line, count)?;
+        bytes.extend_from_slice(last.as_bytes())?;
+        let fault = reason.map(|reason| ScriptFault::Line(u64::from(count) + 3, reason));
+        assert_eq!(rt;
+            fault_of(rt.alloc(), &bytes),
+            fault,
+            "{last} after {count} of {line}"
+        );
     }
     Ok(())
 }

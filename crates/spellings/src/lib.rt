@@ -8,6 +8,6 @@ pub mod numbers;
 #[cfg(test)]
 mod tests;
 
-pub use lines::{is_content, split_line, words_in};
+pub use lines::{is_content, line_at, word_in, words_in};
 pub use names::{is_name, name_text};
-pub use numbers::{plain_number, tick, whole_number};
+pub use numbers::{plain, plain_number, tick, whole_number};

@@ -39,8 +39,9 @@ fn value_of(word: &[u8]) -> u128
     value
 }
 
-// The value of a plain number.
-fn plain_value(word: &[u8]) -> Option<u128>
+/// The value of a plain number: 1 to 20 decimal digits, leading zeros accepted. `None` exactly where
+/// the word is none.
+pub fn plain(word: &[u8]) -> Option<u128>
     ensures { MatchOption result (is_plain word.now ≡ false) (λ n. (is_plain word.now ≡ true) × (n ≡ value_of word.now) × (n < 10 ^ 20)) }
 {
     if is_plain(word) {
@@ -55,7 +56,7 @@ fn plain_value(word: &[u8]) -> Option<u128>
 pub fn plain_number(word: &[u8], most: u64) -> Option<u64>
     ensures { result ≡ plain_up_to most word.now }
 {
-    at_most(plain_value(word)?, most)
+    at_most(plain(word)?, most)
 }
 
 /// The whole number that the word spells: a plain number with at most one `-` before it, so `-0` is
@@ -73,7 +74,7 @@ pub fn whole_number(word: &[u8]) -> Option<i64>
 fn from_zero(word: &[u8]) -> Option<i64>
     ensures { result ≡ (if is_plain word.now && nat_lt (value_of word.now) (2 ^ 63) then Some (pos (value_of word.now)) else None) }
 {
-    match plain_value(word) {
+    match plain(word) {
         Some(value) if value < 1 << 63 => Some(value as i64),
         _ => None,
     }
@@ -83,7 +84,7 @@ fn from_zero(word: &[u8]) -> Option<i64>
 fn below_zero(digits: &[u8]) -> Option<i64>
     ensures { result ≡ (if is_plain digits.now && nat_le (value_of digits.now) (2 ^ 63) then Some (neg_ℤ (pos (value_of digits.now))) else None) }
 {
-    match plain_value(digits) {
+    match plain(digits) {
         Some(value) if value <= 1 << 63 => Some((-(value as i128)) as i64),
         _ => None,
     }
@@ -100,15 +101,15 @@ fn is_denominator(value: u128) -> bool
 fn whole_time(word: &[u8], most: u64) -> Option<u64>
     ensures { result ≡ (if is_plain word.now && nat_le (value_of word.now * 65536) most then Some (value_of word.now * 65536) else None) }
 {
-    at_most(plain_value(word)? * TICKS, most)
+    at_most(plain(word)? * TICKS, most)
 }
 
 // The tick of a time `a/b`, where it is at most the given one.
 fn fraction(a: &[u8], b: &[u8], most: u64) -> Option<u64>
     ensures { result ≡ fraction_up_to most a.now b.now }
 {
-    let a = plain_value(a)?;
-    let b = plain_value(b)?;
+    let a = plain(a)?;
+    let b = plain(b)?;
     if is_denominator(b) {
         at_most(a * TICKS / b, most)
     } else {

@@ -1,5 +1,6 @@
 use crate::{
-    is_content, is_name, name_text, plain_number, split_line, tick, whole_number, words_in,
+    is_content, is_name, line_at, name_text, plain, plain_number, tick, whole_number, word_in,
+    words_in,
 };
 use std::test::Fail;
 
@@ -87,7 +88,8 @@ fn names(rt: HostRuntime) -> Result<(), Fail> {
 
 #[test]
 fn lines(rt: HostRuntime) -> Result<(), Fail> {
-    let mut rest = "shape 2  2\r\n\t# a\r\r\n\n \t\r\n\tsig\t0 1 ".as_bytes();
+    let text = "shape 2  2\r\n\t# a\r\r\n\n \t\r\n\tsig\t0 1 ".as_bytes();
+    let mut from = 0;
     for (line, content, words) in [
         ("shape 2  2", true, 3),
         ("\t# a\r", false, 2),
@@ -95,13 +97,15 @@ fn lines(rt: HostRuntime) -> Result<(), Fail> {
         (" \t", false, 0),
         ("\tsig\t0 1 ", true, 3),
     ] {
-        let (first, after) = split_line(rest).expect(&rt, "a line");
+        let (end, after) = line_at(text, from).expect(&rt, "a line");
+        let first = &text[from..end];
         assert_eq!(rt; first, line.as_bytes(), "{line}");
         assert_eq!(rt; is_content(first), content, "{line}");
         assert_eq!(rt; words_in(rt.alloc(), first)?.len(), words, "{line}");
-        rest = after;
+        from = after;
     }
-    assert!(rt; split_line(rest).is_none());
+    assert_eq!(rt; from, text.len());
+    assert!(rt; line_at(text, from).is_none());
     for (word, want) in words_in(rt.alloc(), "\tsig\t0 1/2 ".as_bytes())?
         .iter()
         .zip(["sig", "0", "1/2"].iter())
@@ -109,4 +113,38 @@ fn lines(rt: HostRuntime) -> Result<(), Fail> {
         assert_eq!(rt; *word, want.as_bytes());
     }
     Ok(())
+}
+
+#[test]
+fn places(rt: HostRuntime) {
+    let line = "\tsig\t0 1/2 ".as_bytes();
+    for (from, place) in [
+        (0, Some((1, 4))),
+        (4, Some((5, 6))),
+        (6, Some((7, 10))),
+        (10, None),
+        (11, None),
+    ] {
+        assert_eq!(rt; word_in(line, from), place, "from {from}");
+    }
+    for (bytes, from, place) in [
+        ("", 0, None),
+        ("\r", 0, Some((0, 1))),
+        ("\n\r\n", 0, Some((0, 1))),
+        ("\n\r\n", 1, Some((1, 3))),
+        ("a\r\r", 0, Some((2, 3))),
+        ("a\n", 2, None),
+    ] {
+        assert_eq!(rt;
+            line_at(bytes.as_bytes(), from),
+            place,
+            "{bytes:?} from {from}"
+        );
+    }
+    assert_eq!(rt;
+        plain("99999999999999999999".as_bytes()),
+        Some(99_999_999_999_999_999_999)
+    );
+    assert_eq!(rt; plain("099999999999999999999".as_bytes()), None);
+    assert_eq!(rt; plain("-1".as_bytes()), None);
 }

@@ -1,7 +1,9 @@
 //! The shape line, and the lines that open sessions.
-ghost use Rattle.std.specs.Prelude.{map};
-ghost use Rattle.script_reader.specs.Forms.{shape_form, session_form};
-ghost use Rattle.script_reader.specs.Reading.{Reads};
+ghost use Rattle.std.specs.Prelude.{◌≡◌, None, map, MatchResult};
+ghost use Rattle.definitions.specs.Words.{IsShape};
+ghost use Rattle.script_reader.specs.Limits.{nothing_said};
+ghost use Rattle.script_reader.specs.Forms.{form_reason, extent_of, shape_form, session_form};
+ghost use Rattle.script_reader.specs.Reading.{IsRefusal, Reads};
 
 use crate::fault::{LineFault, Reason};
 use crate::form::fields::number_at;
@@ -11,13 +13,11 @@ use words::{Shape, ShapeFault};
 
 const MOST_SESSIONS: u64 = 16;
 
-/// A shape line.
-pub(crate) fn read_shape(tally: &Tally, words: &[&[u8]]) -> Result<Said, LineFault>
-    ensures { Reads shape_form tally.now (map (λ w. w.now) words.now) result }
+/// The shape that the words of a shape line name, which stands where it may.
+pub fn shape_of(words: &[&[u8]]) -> Result<Shape, LineFault>
+    ensures { let spelled = map (λ w. w.now) words.now in let due = form_reason shape_form nothing_said spelled in
+        MatchResult result (λ shape. (due ≡ None) × IsShape shape × (shape ≡ extent_of spelled)) (λ fault. IsRefusal due fault) }
 {
-    if tally.shape.is_some() {
-        return Err(LineFault::Bad(Reason::Place));
-    }
     if words.len() != 3 {
         return Err(LineFault::Bad(Reason::Fields));
     }
@@ -25,11 +25,22 @@ pub(crate) fn read_shape(tally: &Tally, words: &[&[u8]]) -> Result<Said, LineFau
         return Err(LineFault::Bad(Reason::Number));
     };
     match Shape::new(width as u32, depth as u32) {
-        Ok(shape) => Ok(Said::Shape(shape)),
+        Ok(shape) => Ok(shape),
         Err(ShapeFault::Width(_)) => Err(LineFault::Bad(Reason::Width)),
         Err(ShapeFault::Depth(_)) => Err(LineFault::Bad(Reason::Depth)),
         Err(ShapeFault::Words(_)) => Err(LineFault::Bad(Reason::Words)),
     }
+}
+
+/// A shape line.
+pub(crate) fn read_shape(tally: &Tally, words: &[&[u8]]) -> Result<Said, LineFault>
+    ensures { Reads shape_form tally.now (map (λ w. w.now) words.now) result }
+{
+    if tally.shape.is_some() {
+        return Err(LineFault::Bad(Reason::Place));
+    }
+    let shape = shape_of(words)?;
+    Ok(Said::Shape(shape))
 }
 
 /// A session line.

@@ -11,9 +11,9 @@ use crate::said::Said;
 use crate::tally::Tally;
 
 /// The greatest end of a query.
-const MOST_END: u64 = 1 << 32;
+pub(crate) const MOST_END: u64 = 1 << 32;
 
-const MOST_RESOLUTION: u64 = 16;
+pub(crate) const MOST_RESOLUTION: u64 = 16;
 
 /// Whether there are as many words as in a query: four, or six of which the fifth is `at`.
 fn has_query_fields(words: &[&[u8]]) -> bool

@@ -27,3 +27,8 @@ pub returns-in-remove : goal.returns-in-remove
 returns-in-remove c =
     let same : codes "remove" ≡ c.args.word.now = sym (text_from_reads c.args.word.now (codes "remove") (omega arith) (search rules)) in
     ap keyword_of same
+
+pub returns-in-parts : goal.returns-in-parts
+returns-in-parts c =
+    let same : codes "parts" ≡ c.args.word.now = sym (text_from_reads c.args.word.now (codes "parts") (omega arith) (search rules)) in
+    ap keyword_of same
