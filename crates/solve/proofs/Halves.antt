@@ -18,17 +18,21 @@ module _ (plan : Plan) (node : NodeValue) (left right : Box Plan Global) (is : p
       ∙ length-append (missed left.value ++ missed right.value) (Split node left right ∷ [])
       ∙ ap (λ n. n + 1) (length-append (missed left.value) (missed right.value))
 
+  -- the left half misses fewer nodes than the split
   pub left-misses : length (missed left.value) < length (missed plan)
   left-misses = omega (arith, misses)
 
+  -- so does the right one
   pub right-misses : length (missed right.value) < length (missed plan)
   right-misses = omega (arith, misses)
 
   weighs : plan_weight plan ≡ plan_weight left.value + plan_weight right.value
   weighs = ap plan_weight is
 
+  -- where a power of the split's weight is within the limit, so is that of the left half's
   pub left-fits : (n : ℕ) → plan_weight plan ^ n ≤ limit → plan_weight left.value ^ n ≤ limit
   left-fits n = lighter-fits (plan_weight left.value) (plan_weight plan) n (omega (arith, weighs))
 
+  -- so is that of the right half's
   pub right-fits : (n : ℕ) → plan_weight plan ^ n ≤ limit → plan_weight right.value ^ n ≤ limit
   right-fits n = lighter-fits (plan_weight right.value) (plan_weight plan) n (omega (arith, weighs))

@@ -32,6 +32,7 @@ pub lie_series-of : (extent : Extent) (x : Parts) → IsMove extent x → (w : L
 unfolding lie_series
 lie_series-of extent x is w = ap₂ (λ (m n : ℕ). parts_series (hall_list m n) 1 x w) is.letters is.deep
 
+-- the terms of a move's parts expand to its Lie element
 pub terms-value : (extent : Extent) (x : Parts) (terms : List Term) (w : List ℕ) → IsMove extent x → terms ≡ parts_terms (hall_list extent.width extent.depth) 1 x
     → expanded (expansion (hall_list extent.width extent.depth)) terms w ≡ lie_series x w
 terms-value extent x terms w is et =
@@ -44,6 +45,7 @@ not-refused extent x terms (Place i) some small et bad =
     let hall : List Member = hall_list extent.width extent.depth in
     bad.bad (subst (λ (ts : List Term). i < length ts → IsGoodAt (length hall) ts i) (sym et) (move_terms-good extent.depth hall (hall_list-IsHall extent.width extent.depth some) x small i) bad.inside)
 
+-- where no part has a total above 2 ^ 95, no level of its terms leaves the range
 pub level-fits : (extent : Extent) (x : Parts) (terms : List Term) (k : ℕ) → extent.depth ≤ 8 → All (λ part. total part ≤ 2 ^ 95) x → terms ≡ parts_terms (hall_list extent.width extent.depth) 1 x
     → k ≤ extent.depth → FitsLevel (hall_list extent.width extent.depth) terms k
 level-fits extent x terms k few small et le =
@@ -67,10 +69,12 @@ move-HasSizes extent x z sizes shape is same values es small =
           omega (arith, bound, ap unsigned_abs (values word is_word ∙ lie_series-of extent x is word), ap (λ (ps : List ℕ). slice_index_or ps k 0) es);
     }
 
+-- the weight of the sizes of a move is that of the move
 pub move-weight_is : (extent : Extent) (x : Parts) (sizes : List ℕ) → IsMove extent x → sizes ≡ sizes_of x → weight_from extent.depth 1 sizes ≡ move_weight x
 unfolding move_weight
 move-weight_is extent x sizes is es = ap₂ (λ (n : ℕ) (ps : List ℕ). weight_from n 1 ps) (sym is.deep) es
 
+-- the exponential of the tensor of a move's Lie element is the signature of this one move
 pub move-stands : (extent : Extent) (x : Parts) (z : TensorValue) (sizes : List ℕ) (s : SigValue) → IsMove extent x → z.extent ≡ extent → ((word : List ℕ) → IsWord extent word → coefficient z word ≡ lie_series x word)
     → sizes ≡ sizes_of x → IsExponentialOf z sizes s → StandsFor s (x ∷ [])
 move-stands extent x z sizes s is same values es made =
@@ -79,6 +83,7 @@ move-stands extent x z sizes s is same values es made =
     (subst (λ (ps : List ℕ). IsExponentialOf z ps s) es made)
 
 -- ---- one member more
+-- a member of degree n takes the next entry and adds its term
 pub entry-added : (hall : List Member) (n at place : ℕ) (start old new : List Term) (entries : List ℤ) → degree hall (at + 1) ≡ n → place ≡ length (first_of_degree hall n at)
     → old ≡ start ++ part_terms (first_of_degree hall n at) entries → new ≡ old ++ entry_terms (at + 1) entries place
     → (place + 1 ≡ length (first_of_degree hall n (at + 1))) × (new ≡ start ++ part_terms (first_of_degree hall n (at + 1)) entries)
@@ -94,6 +99,7 @@ entry-added hall n at place start old new entries ed ep eo en =
           ∙ ap (λ (ks : List ℕ). start ++ part_terms ks entries) (sym more),
     )
 
+-- a member of another degree takes no entry and adds no term
 pub entry-passed : (hall : List Member) (n at place : ℕ) (start old : List Term) (entries : List ℤ) → (degree hall (at + 1) ≡ n → ⊥) → place ≡ length (first_of_degree hall n at)
     → old ≡ start ++ part_terms (first_of_degree hall n at) entries
     → (place ≡ length (first_of_degree hall n (at + 1))) × (old ≡ start ++ part_terms (first_of_degree hall n (at + 1)) entries)
@@ -103,6 +109,7 @@ entry-passed hall n at place start old entries ne ep eo =
     (ep ∙ ap length (sym same), eo ∙ ap (λ (ks : List ℕ). start ++ part_terms ks entries) (sym same))
 
 -- ---- plain rows
+-- a signature of moves and the plain move of x's first part is one of the moves and x, where x is plain
 pub plain-stands : (s : SigValue) (moves : List Parts) (depth : ℕ) (x : Parts) → 1 ≤ length x → IsPlain x → StandsFor s (moves ++ plain depth (first_part x) ∷ []) → StandsFor s (moves ++ x ∷ [])
 plain-stands s moves depth x some is stands = record {
   weighs = omega (arith, stands.weighs, sum_by_push move_weight moves (plain depth (first_part x)), sum_by_push move_weight moves x, plain-form_weight depth x is);

@@ -31,22 +31,28 @@ module _ (plans : List Plan) (i : ℕ) (plan : Plan) (within : i < length plans)
   weight-within : total_weight (take i plans) + plan_weight plan ≤ total_weight plans
   weight-within = omega (arith, sum_by_more_le plan_weight plans i plan within, ap plan_weight at)
 
+  -- where a power of the weight of all plans is within the limit, so is that of the one at place i
   pub plan-fits : (n : ℕ) → total_weight plans ^ n ≤ limit → plan_weight plan ^ n ≤ limit
   plan-fits n = lighter-fits (plan_weight plan) (total_weight plans) n (omega (arith, weight-within))
 
+  -- so is that of the first i plans and this one together
   pub sum-fits : (v n : ℕ) → v ≡ total_weight (take i plans) + plan_weight plan → total_weight plans ^ n ≤ limit → v ^ n ≤ limit
   sum-fits v n is = lighter-fits v (total_weight plans) n (omega (arith, weight-within, is))
 
+  -- what the first i plans miss, then what this one misses, is what the first i + 1 miss
   pub missed-more : all_missed (take i plans) ++ missed plan ≡ all_missed (take (i + 1) plans)
   missed-more =
       sym (ap all_missed one_more ∙ flat_map-append missed (take i plans) (plan ∷ []) ∙ ap (λ last. all_missed (take i plans) ++ last) (append-nil (missed plan)))
 
+  -- a sum over the first i + 1 plans is that over the first i, and what this one has
   pub count-more : (f : Plan → ℕ) → sum_by f (take (i + 1) plans) ≡ sum_by f (take i plans) + f plan
   count-more f = sum_by_more f plans i plan within ∙ ap (λ (p : Plan). sum_by f (take i plans) + f p) (sym at)
 
+  -- it is at most the sum over all plans
   pub count-within : (f : Plan → ℕ) → sum_by f (take i plans) + f plan ≤ sum_by f plans
   count-within f = omega (arith, sum_by_more_le f plans i plan within, ap f at)
 
+  -- the product of the signature of the first i plans with that of this one is that of the first i + 1
   pub solves-more : (extent : Extent) (a b sig : SigValue) → SolvesPlans extent (take i plans) a → SolvesPlan extent plan b
       → sig.tensor.extent ≡ a.tensor.extent → sig.weight ≡ a.weight + b.weight
       → ((first second : List Parts) → StandsFor a first → StandsFor b second → StandsFor sig (first ++ second))

@@ -20,5 +20,6 @@ module _ (rows : List RowValue) (n : ℕ) (long : length rows ≤ n) (adjacent :
         | inr last ↦ (let same : j ≡ i = omega arith in subst (λ k. IsBefore (get_or rows k d) (get_or rows (suc j) d)) same (next j within))
       ]
 
+-- if each row stands before the next, the rows are in order
 pub in_order-from_adjacent : (rows : List RowValue) (n : ℕ) → length rows ≤ n → AllAdjacentBelow IsBefore rows n → IsInOrder rows
 in_order-from_adjacent rows n long adjacent = λ i j d before within. from_next rows n long adjacent d i j before within

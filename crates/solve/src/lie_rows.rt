@@ -2,10 +2,11 @@
 ghost use Rattle.std.specs.Prelude.{◌≡◌, ◌+◌, ◌^◌, ◌≤◌, ◌++◌, ◌∷◌, [], ℕ, List, All, length, IfOk, IfErr, OnOk, OnErr};
 ghost use Rattle.definitions.specs.Words.{IsShape, IsWord};
 ghost use Rattle.definitions.specs.Hall.{hall_list, of_degree};
-ghost use Rattle.definitions.specs.Moves.{IsMove, total, lie_series, move_weight};
+ghost use Rattle.definitions.specs.Moves.{IsMove, total, lie_series, move_weight, sizes_of};
 ghost use Rattle.definitions.specs.Signature.{limit};
 ghost use Rattle.lie_bracket.specs.MoveTerms.{part_terms, parts_terms, entry_terms};
 ghost use Rattle.scaled_tensor.specs.Tensors.{coefficient};
+ghost use Rattle.tensor_product.specs.Exponentiation.{HasSizes};
 ghost use Rattle.tensor_product.specs.Faults.{IsRefusedBy};
 ghost use Rattle.tensor_product.specs.Sigs.{StandsFor};
 
@@ -81,7 +82,27 @@ fn tensor_of(alloc: Global, x: &Move, hall: &HallSet) -> Result<Tensor, Memory>
     }
 }
 
-/// The signature of one row, by the exponential of its move's Lie element. Takes one step.
+/// The tensor of a move's Lie element, whose coefficients at k letters are at most the k-th size.
+pub fn sized_tensor(
+    alloc: Global,
+    x: &Move,
+    hall: &HallSet,
+    sizes: &mut [u128],
+) -> Result<Tensor, Memory>
+    requires move_of { IsMove hall.now x.now }
+    requires places { length sizes.old ≡ hall.now.depth }
+    ensures sizes { sizes.new ≡ sizes_of x.now }
+    ensures extent { IfOk result (λ z. z.extent ≡ hall.now) }
+    ensures value { IfOk result (λ z. (word : List ℕ) → IsWord hall.now word → coefficient z word ≡ lie_series x.now word) }
+    ensures sized { IfOk result (λ z. HasSizes z sizes.new) }
+{
+    let _shape = hall.shape();
+    x.write_sizes(sizes);
+    let tensor = tensor_of(alloc, x, hall)?;
+    Ok(tensor)
+}
+
+/// The signature of one row, by the exponential of its move's Lie element. Takes one unit.
 pub fn row_sig<L: Ledger>(
     alloc: Global,
     x: &Move,
@@ -96,10 +117,9 @@ pub fn row_sig<L: Ledger>(
     ensures ticks { OnOk result (steps.new ≡ steps.old + 1) }
     ensures at_most { (steps.old ≤ steps.new) × (steps.new ≤ steps.old + 1) }
 {
+    fitting(hall.shape(), x.weight())?;
     let mut all = [0u128; 8];
     let sizes = &mut all[..hall.shape().depth() as usize];
-    x.write_sizes(sizes);
-    fitting(hall.shape(), x.weight())?;
-    let tensor = tensor_of(alloc, x, hall)?;
+    let tensor = sized_tensor(alloc, x, hall, sizes)?;
     exp_move(alloc, &tensor, sizes, steps)
 }

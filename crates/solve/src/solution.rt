@@ -66,9 +66,9 @@ fn multiply_by(sig: &mut Sig, next: &Sig)
     }
 }
 
-/// Extends a signature by one row, where its weight fits: a plain row letter by letter, any other by
-/// its exponential. Takes one step.
-fn add_row<L: Ledger>(
+/// Extends a signature by one row, where the sum of their weights fits: by a plain row letter by
+/// letter, by any other by its exponential. Takes one unit, and after want of memory at most one.
+pub fn add_row<L: Ledger>(
     alloc: Global,
     sig: &mut Sig,
     x: &Move,
@@ -101,7 +101,7 @@ fn add_row<L: Ledger>(
     }
 }
 
-/// The signature of rows whose weight fits. Takes one step for each.
+/// The signature of rows whose weight fits. Takes one unit for each.
 fn sig_of_rows<L: Ledger>(
     alloc: Global,
     hall: &HallSet,
@@ -211,7 +211,7 @@ fn solve_plans<L: Ledger>(
 }
 
 /// The signature of a work and the nodes that are missed in it. Calls the gate once before the
-/// first step. Takes one step for each row of the leaves, and after want of memory at most so many.
+/// first unit. Takes one unit for each row of the leaves, and after want of memory at most so many.
 pub fn solve<G: Gate, L: Ledger>(
     alloc: Global,
     work: &Work,

@@ -1,18 +1,21 @@
 ghost use Rattle.std.specs.Prelude.{◌≡◌, ◌^◌, ◌<◌, ◌≤◌, IfOk};
 ghost use Rattle.definitions.specs.Moves.{IsMove};
 ghost use Rattle.solve.specs.Plans.{plan_weight, total_weight};
+ghost use Rattle.tensor_product.specs.Exponentiation.{HasSizes};
 
+use crate::lie_rows::sized_tensor;
 use crate::{Plan, Solved, Through, Work, WorkFault, row_sig, solve};
 use dyadic::Node;
 use hall_set::HallSet;
 use increments::{Name, Row, RowList};
+use scaled_tensor::Tensor;
 use std::alloc::Global;
 use std::marker::Brand;
 use std::process::Abort;
 use std::sync::Arc;
 use std::sync::ledger::{Blank, Ledger};
 use std::test::Fail;
-use tensor_product::{ProductFault, Sig};
+use tensor_product::{ProductFault, Sig, exp_move};
 use words::{Entries, Memory, Move, Shape, Steps};
 
 fn node(k: u64, n: i8) -> Result<Node, Fail> {
@@ -164,6 +167,39 @@ fn signature_of_a_bracket(rt: HostRuntime) -> Result<(), Fail> {
     assert_eq!(rt; x.weight(), 2);
     if x.shape() == shape {
         let sig = signed::<Brand>(alloc, shape, &x, Blank::new(1))?;
+        levels_are(&rt, &sig, &[&[1], &[0, 0], &[0, 2, -2, 0]]);
+        assert_eq!(rt; sig.weight(), 2);
+    }
+    Ok(())
+}
+
+/// The exponential of the tensor of a move's Lie element, with a count of its own.
+fn exponential<L: Ledger>(
+    alloc: Global,
+    z: &Tensor,
+    sizes: &[u128],
+    blank: Blank,
+) -> Result<Sig, ProductFault>
+    requires sized { HasSizes z.now sizes.now }
+    requires name { blank.name ≡ L.name }
+    requires parts { blank.parts ≡ L.parts }
+    requires some { 0 < L.parts }
+{
+    let mut steps: Steps<L> = Steps::new(blank);
+    exp_move(alloc, z, sizes, &mut steps)
+}
+
+#[test]
+fn exponential_of_a_bracket(rt: HostRuntime) -> Result<(), Fail> {
+    let alloc = rt.alloc();
+    let hall = HallSet::build(alloc, Shape::new(2, 2)?)?;
+    let x = move_of(alloc, hall.shape(), &[&[0, 0], &[1]])?;
+    let mut sizes = [0u128; 2];
+    if x.shape() == hall.shape() {
+        let z = sized_tensor(alloc, &x, &hall, &mut sizes)?;
+        assert_eq!(rt; sizes, [0, 2]);
+        assert_eq!(rt; z.level(2), [0, 1, -1, 0].as_slice());
+        let sig = exponential::<Brand>(alloc, &z, &sizes, Blank::new(1))?;
         levels_are(&rt, &sig, &[&[1], &[0, 0], &[0, 2, -2, 0]]);
         assert_eq!(rt; sig.weight(), 2);
     }

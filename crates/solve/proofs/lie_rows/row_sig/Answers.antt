@@ -6,25 +6,21 @@ use Rattle.scaled_tensor.specs.Tensors.{TensorValue}
 use Rattle.tensor_product.specs.Exponentiation.{IsExponentialOf}
 use Rattle.tensor_product.specs.Faults.{IsRefusedBy}
 use Rattle.tensor_product.specs.Sigs.{StandsFor}
-use Rattle.solve.proofs.LieRows.{move-HasSizes, move-weight_is, move-stands}
+use Rattle.solve.proofs.LieRows.{move-weight_is, move-stands}
 use Rattle.solve.proofs.lie_rows.row_sig.Goals as goal
-
-pub exp_move-requires : goal.exp_move-requires
-exp_move-requires g c =
-    move-HasSizes c.args.hall.now c.args.x.now c.in_ok-tensor.tensor c.write_sizes.new.sizes c.shape.ensures.shape c.requires c.in_ok-tensor.ensures.extent c.in_ok-tensor.ensures.value c.write_sizes.ensures.value c.write_sizes.ensures.small
 
 pub returns-clause-refused : goal.returns-clause-refused
 returns-clause-refused g c =
     let z : TensorValue = c.in_ok-tensor.tensor in
-    let sizes : List ℕ = c.write_sizes.new.sizes in
+    let sizes : List ℕ = c.sized_tensor.new.sizes in
     let depth : z.extent.depth ≡ c.args.hall.now.depth = ap (λ (e : Extent). e.depth) c.in_ok-tensor.ensures.extent in
     let weight : weight_from z.extent.depth 1 sizes ≡ move_weight c.args.x.now =
-    ap (λ (n : ℕ). weight_from n 1 sizes) depth ∙ move-weight_is c.args.hall.now c.args.x.now sizes c.requires c.write_sizes.ensures.value in
+    ap (λ (n : ℕ). weight_from n 1 sizes) depth ∙ move-weight_is c.args.hall.now c.args.x.now sizes c.requires c.sized_tensor.ensures.sizes in
     subst (λ (w : ℕ). IfErr c.exp_move.result (λ fault. IsRefusedBy w c.args.hall.now.depth fault)) weight
     (subst (λ (n : ℕ). IfErr c.exp_move.result (λ fault. IsRefusedBy (weight_from z.extent.depth 1 sizes) n fault)) depth c.exp_move.ensures.refused)
 
 pub returns-clause-stands : goal.returns-clause-stands
 returns-clause-stands g c =
-    IfOk-weaker c.exp_move.result (IsExponentialOf c.in_ok-tensor.tensor c.write_sizes.new.sizes) (λ s. StandsFor s (c.args.x.now ∷ []))
-    (λ s made. move-stands c.args.hall.now c.args.x.now c.in_ok-tensor.tensor c.write_sizes.new.sizes s c.requires c.in_ok-tensor.ensures.extent c.in_ok-tensor.ensures.value c.write_sizes.ensures.value made)
+    IfOk-weaker c.exp_move.result (IsExponentialOf c.in_ok-tensor.tensor c.sized_tensor.new.sizes) (λ s. StandsFor s (c.args.x.now ∷ []))
+    (λ s made. move-stands c.args.hall.now c.args.x.now c.in_ok-tensor.tensor c.sized_tensor.new.sizes s c.requires c.in_ok-tensor.ensures.extent c.in_ok-tensor.ensures.value c.sized_tensor.ensures.sizes made)
     c.exp_move.ensures.value
