@@ -23,7 +23,8 @@ use Rattle.versions.specs.declared.log.Accepted.{Accepted}
 use Rattle.versions.specs.Versions.{rows_at}
 use Rattle.book.specs.Walks.{Pair, pair_at, is_kept, count_at, Visit, Hit, Unit, Leaf, Split, absent, visited, visit_of, walk, pieces_of}
 use Rattle.book.specs.Plans.{node_rows, HasSignature, IsPlanOf, ArePlansOf, IsForRows, AreForRows}
-use Rattle.book.proofs.RowJoins.{moves_in, forward, adjoin-forward, no-rows, moves-join, weight-join}
+use Rattle.book.proofs.RowJoins.{moves_in, forward, adjoin-forward, moves-join, weight-join}
+use Rattle.increments.proofs.Joins.{no-rows}
 
 -- a plan for the rows of version v in this node
 pub record IsFor (extent : Extent) (edits : List Accepted) (v : ℕ) (node : NodeValue) (plan : Plan) : Type 0 where

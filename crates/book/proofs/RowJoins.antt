@@ -25,13 +25,6 @@ pub adjoin-forward : (a b : ℕ) (nodes : List NodeValue) → Adjoin a b nodes �
 adjoin-forward a b [] h = omega (arith, h)
 adjoin-forward a b (node ∷ nodes) h = omega (arith, h.0, forward node, adjoin-forward (high_of node) b nodes h.1)
 
--- there are no rows in an empty interval
-pub no-rows : (a : ℕ) (rows : List RowValue) → rows_in a a rows ≡ []
-no-rows a [] = refl
-no-rows a (r ∷ rows) =
-    let out : lies_in a a r.tick ≡ false = grind (arith, nat_tests) in
-    rw out (no-rows a rows)
-
 module _ (a b c : ℕ) (rows : List RowValue) (order : IsInOrder rows) (ab : a ≤ b) (bc : b ≤ c) where
   -- the moves of [a, c) are those of [a, b) and then those of [b, c)
   pub moves-join : moves_in a c rows ≡ moves_in a b rows ++ moves_in b c rows

@@ -15,7 +15,7 @@ use Rattle.book.specs.Looks.{AllowsSignatures}
 use Rattle.book.proofs.FitLaws.{weighed-over}
 use Rattle.session.specs.Play.{allowed_by}
 use Rattle.session.specs.Answers.{IsAllowed}
-use Rattle.session.proofs.BoundLaws.{fits-signature}
+use Rattle.dynkin_map.proofs.BoundLaws.{fits-signature}
 
 -- what isn't refused fits
 pub unrefused-fits : (factors : List ℕ) (v : ℕ) → weighed factors v ≡ None → Fits factors v

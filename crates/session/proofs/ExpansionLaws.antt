@@ -1,14 +1,11 @@
 -- The due Hall coordinates expand to the logarithm.
-use Rattle.std.proofs.Common.{ℕ, ◌≤◌, subst, arith, List, [], ◌∷◌, Option, Some, None}
+use Rattle.std.proofs.Common.{ℕ, ◌≤◌, subst, List, [], ◌∷◌, Option, Some, None}
 use Rattle.std.specs.Prelude.{ℤ}
 use Rattle.definitions.specs.Words.{Extent}
-use Rattle.definitions.specs.Moves.{Parts}
 use Rattle.definitions.specs.Signature.{signature}
 use Rattle.definitions.specs.Logarithm.{logarithm}
 use Rattle.definitions.specs.Rows.{RowValue, moves_of}
-use Rattle.exp_log.proofs.LogarithmsOnShuffles.{signature-IsGrouplike, logarithm-shuffles}
-use Rattle.dynkin_map.specs.Coordinates.{coordinates}
-use Rattle.dynkin_map.proofs.DynkinTheorem.{coordinates-theorem}
+use Rattle.dynkin_map.proofs.LogarithmsInCoordinates.{logarithm-expands}
 use Rattle.script_reader.specs.declared.command.Kind.{Kind}
 use Rattle.script_reader.specs.declared.command.Kind.TheVariants as kinds
 use Rattle.book.specs.declared.query.Query.{Query}
@@ -17,14 +14,6 @@ use Rattle.book.specs.Play.{State, Request, Editing, Looking, Settling, found, l
 use Rattle.session.specs.Play.{Due, Logged, Run, valued, unless, looked, next_request, stepped}
 use Rattle.session.specs.Logarithms.{ExpandsTo, IsExpanded, AreExpanded}
 
--- the coordinates of a logarithm expand to it
-logarithm-expands : (extent : Extent) (moves : List Parts) → extent.depth ≤ 8 → ExpandsTo extent (coordinates extent (logarithm (signature moves))) (logarithm (signature moves))
-logarithm-expands extent moves small = record {
-  expands = λ word is some.
-      coordinates-theorem extent (logarithm (signature moves)) word some is.short is.letters
-      (λ u v lu lv su sv e. logarithm-shuffles (signature moves) (signature-IsGrouplike moves) u v su sv (omega (arith, e, is.short, small)));
-}
-
 -- what holds of an answer, whether or not it is a logarithm
 abbrev Expands : Extent → (List ℕ → ℤ) → Due → Type 0
 Expands extent series (Logged reply terms) = ExpandsTo extent terms series
@@ -32,7 +21,7 @@ Expands extent series _ = Unit {0}
 
 valued-expands : (extent : Extent) (kind : Kind) (reply : LookReply) (rows : List RowValue) → extent.depth ≤ 8 → Expands extent (logarithm (signature (moves_of rows))) (valued extent kind reply rows)
 valued-expands extent kinds.Sig reply rows small = tt
-valued-expands extent kinds.Log reply rows small = logarithm-expands extent (moves_of rows) small
+valued-expands extent kinds.Log reply rows small = record { expands = logarithm-expands extent (moves_of rows) small }
 
 unless-expands : (extent : Extent) (series : List ℕ → ℤ) (refusal : Option LookReply) (due : Due) → Expands extent series due → Expands extent series (unless refusal due)
 unless-expands extent series None due expands = expands

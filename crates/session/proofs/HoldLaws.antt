@@ -1,6 +1,7 @@
 -- What one hold of the book finds, and what it adds.
 use Rattle.std.proofs.Common.{◌≡◌, ◌∙◌, ℕ, ◌≤◌, refl, sym, ap, subst, arith, true, false, List, [], ◌∷◌, ◌++◌}
 use Rattle.std.specs.Prelude.{None}
+use mathlib.Core.List.{IsPrefix}
 use Rattle.turnstile.specs.declared.view.PassView.{PassView}
 use Rattle.solve.specs.declared.solution.SolvedNode.{SolvedNode}
 use Rattle.book.specs.declared.step.Step.{Step}
@@ -9,7 +10,7 @@ use Rattle.book.specs.Books.{BookValue, IsReady, IsFree, IsSettledBy, state_of, 
 use Rattle.book.specs.declared.query.Query.{Query}
 use Rattle.session.specs.declared.look.Looked.{Looked}
 use Rattle.session.specs.Looks.{IsLooked}
-use Rattle.session.specs.Holds.{frame_of, book_of, seen_book, pending_in, with_step, CanStep, IsTaken, IsStill, Adds}
+use Rattle.session.specs.Holds.{frame_of, book_of, seen_book, pending_in, with_step, CanStep, IsTaken, IsStill, Adds, GaveUp}
 use Rattle.session.proofs.TakenLaws.{taken-ready, taken-pending, taken-settles}
 
 -- a book with sessions has a frame, which is its own
@@ -70,6 +71,24 @@ module _ {v w : PassView Step} {book : BookValue} {label : ℕ} (is : Holds v w 
       same ∙ ap frame_of is.book_is ∙ frame-of_book v.frame v.seen book.history (omega (arith, is.can.session.some, is.can.session.within))
       ∙ ap (λ (view : PassView Step). view.frame) (sym is.turn)
 
+  -- a pass that gives the book back with the steps that it took has given up
+  pub holds-gave_up : (u : PassView Step) → u ≡ record w { seen = w.taken; turn = false; taken = [] } → GaveUp v u
+  holds-gave_up u given =
+      let after : u ≡ record v { seen = book.history; turn = false; taken = [] } =
+      given ∙ ap (λ (view : PassView Step). record view { seen = view.taken; turn = false; taken = [] }) is.turn in
+      record {
+        own = ap (λ (view : PassView Step). view.own) after;
+        seen = subst (λ (view : PassView Step). IsPrefix v.seen view.seen) (sym after) is.taken.seen;
+        turn = ap (λ (view : PassView Step). view.turn) after;
+      }
+
+  -- it is the same pass
+  pub holds-still : (u : PassView Step) → u ≡ record w { seen = w.taken; turn = false; taken = [] } → IsStill v u
+  holds-still u given = record {
+    label = ap (λ (view : PassView Step). view.label) given ∙ ap (λ (view : PassView Step). view.label) is.turn;
+    frame = ap (λ (view : PassView Step). view.frame) given ∙ ap (λ (view : PassView Step). view.frame) is.turn;
+  }
+
   -- what a look gave in the book, it gave in the book as the pass sees it
   pub holds-looked : {q : Query} {looked : Looked} → IsLooked label q book looked → IsLooked v.label q (book_of v.frame book.history) looked
   holds-looked {q} {looked} gives =
@@ -107,6 +126,10 @@ module _ {v w : PassView Step} {history : List Step} {request : Request} (adds :
   -- a hold changes neither the label nor the frame
   pub added-still : IsStill v w
   added-still = record { label = ap (λ (view : PassView Step). view.label) adds.after; frame = ap (λ (view : PassView Step). view.frame) adds.after }
+
+  -- its own steps go on from those before
+  pub added-own : IsPrefix v.own w.own
+  added-own = (step_of (state_of (book_of v.frame history)) request ∷ [], sym (ap (λ (view : PassView Step). view.own) adds.after))
 
   -- after it the pass is without the turn
   pub added-idle : w.turn ≡ false

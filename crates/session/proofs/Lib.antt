@@ -1,6 +1,5 @@
 mod AllowedLaws
 mod AskLaws
-mod BoundLaws
 mod EndLaws
 mod ExpansionLaws
 pub mod FrameLaws

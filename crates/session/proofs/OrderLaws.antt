@@ -1,7 +1,7 @@
 -- How a run goes on along an order.
-use Rattle.std.proofs.Common.{◌≡◌, ◌∙◌, ℕ, zero, suc, ◌+◌, ◌-◌, ◌<◌, ◌≤◌, Bool, true, false, List, [], ◌∷◌, ◌++◌, length, take, drop, get_or, refl, sym, ap, subst, arith, append_assoc}
+use Rattle.std.proofs.Common.{◌≡◌, ◌∙◌, ℕ, zero, suc, ◌+◌, ◌-◌, ◌<◌, ◌≤◌, Bool, true, false, List, [], ◌∷◌, ◌++◌, length, take, drop, get_or, refl, sym, ap, subst, arith, add-zero, append_assoc}
 use Rattle.std.specs.Prelude.{Option, Some, None, is_some, if◌then◌else◌}
-use Rattle.std.proofs.lemmas.List.{take_more, take_all, drop_all, append-nil}
+use Rattle.std.proofs.lemmas.List.{take_more, take_all, drop_all, append-nil, take-append-drop}
 use Rattle.std.proofs.lemmas.List.Sums.{fold-append}
 use Rattle.std.proofs.Math.Seq.{drop-cons}
 use Rattle.definitions.specs.Words.{Extent}
@@ -17,12 +17,11 @@ module _ (capacity : ℕ) (extent : Extent) where
   run_in-more : (order : List ℕ) (session : ℕ) (run : Run) → run_in capacity extent (order ++ session ∷ []) run ≡ stepped capacity extent session (run_in capacity extent order run)
   run_in-more order session run = fold-append (λ r s. stepped capacity extent s r) run order (session ∷ [])
 
-  units_in-more : (order : List ℕ) (session : ℕ) (run : Run)
-      → units_in capacity extent (order ++ session ∷ []) run
-      ≡ units_in capacity extent order run + units_of (run_in capacity extent order run).state (next_request extent session (run_in capacity extent order run))
-  units_in-more [] session run = omega arith
-  units_in-more (first ∷ order) session run =
-      let rest = units_in-more order session (stepped capacity extent first run) in
+  units_in-append : (first last : List ℕ) (run : Run)
+      → units_in capacity extent (first ++ last) run ≡ units_in capacity extent first run + units_in capacity extent last (run_in capacity extent first run)
+  units_in-append [] last run = omega arith
+  units_in-append (session ∷ first) last run =
+      let rest = units_in-append first last (stepped capacity extent session run) in
       omega (arith, rest)
 
   -- where the session has something to do, the order is judged from the next place on
@@ -83,7 +82,8 @@ module _ (script : ScriptValue) (old new : BookValue) (session : ℕ) (c : new.c
   units-more same =
       ap (λ (n : ℕ). units_in n script.extent (order_of new) (opening_run script)) c
       ∙ ap (λ (order : List ℕ). units_in old.capacity script.extent order (opening_run script)) e
-      ∙ units_in-more old.capacity script.extent (order_of old) session (opening_run script)
+      ∙ units_in-append old.capacity script.extent (order_of old) (session ∷ []) (opening_run script)
+      ∙ ap (λ (n : ℕ). units_taken script old + n) (add-zero (units_of (run_of script old).state (next_request script.extent session (run_of script old))))
       ∙ ap (λ (state : State). units_taken script old + units_of state (next_request script.extent session (run_of script old))) same
 
   -- the units counted so far and those of this step are those of the run with this step
@@ -204,6 +204,73 @@ module _ (capacity : ℕ) (script : ScriptValue) (book : BookValue) where
       sym (append-nil (order_of book))
       ∙ ap (λ (n : ℕ). order_of book ++ turns_from capacity n script.extent last (run_of script book)) none
       ∙ before.rest
+
+-- ---- an order that goes on from the steps that a book took
+module _ (capacity : ℕ) (script : ScriptValue) (book : BookValue) (c : book.capacity ≡ capacity) where
+  units-on_from : (rest : List ℕ) → units_in capacity script.extent (order_of book ++ rest) (opening_run script) ≡ units_taken script book + units_in book.capacity script.extent rest (run_of script book)
+  units-on_from rest =
+      ap (λ (n : ℕ). units_in n script.extent (order_of book ++ rest) (opening_run script)) (sym c)
+      ∙ units_in-append book.capacity script.extent (order_of book) rest (opening_run script)
+
+  module _ (order : List ℕ) where
+    -- the units taken are no more than those of the whole order
+    units-before : (rest : List ℕ) → order_of book ++ rest ≡ order → units_taken script book ≤ units_in capacity script.extent order (opening_run script)
+    units-before rest is =
+        let whole = units-on_from rest in
+        let same = ap (λ (o : List ℕ). units_in capacity script.extent o (opening_run script)) is in
+        omega (arith, whole, same)
+
+    -- nor are they with those of the session's step, where this is the next one of the order
+    units-within : (session : ℕ) (rest : List ℕ) → order_of book ++ session ∷ rest ≡ order → (run_of script book).state ≡ state_of book
+        → units_taken script book + units_of (state_of book) (next_request script.extent session (run_of script book)) ≤ units_in capacity script.extent order (opening_run script)
+    units-within session rest is state =
+        let whole = units-on_from (session ∷ rest) in
+        let same = ap (λ (o : List ℕ). units_in capacity script.extent o (opening_run script)) is in
+        let here = ap (λ (s : State). units_of s (next_request script.extent session (run_of script book))) state in
+        omega (arith, whole, same, here)
+
+module _ (capacity : ℕ) (script : ScriptValue) (book : BookValue) where
+  -- a book that took the first steps of an order took no more units than the order has
+  pub replayed-units : (order : List ℕ) (i : ℕ) → IsReplayed capacity script order i book → units_taken script book ≤ units_in capacity script.extent order (opening_run script)
+  replayed-units order i before =
+      units-before capacity script book before.capacity_is order (drop i order) (ap (λ (o : List ℕ). o ++ drop i order) before.order_is ∙ take-append-drop i order)
+
+  -- nor does it with its next step
+  pub replayed-within : (order : List ℕ) (i d session : ℕ) → i < length order → session ≡ get_or order i d → (run_of script book).state ≡ state_of book → IsReplayed capacity script order i book
+      → units_taken script book + units_of (state_of book) (next_request script.extent session (run_of script book)) ≤ units_in capacity script.extent order (opening_run script)
+  replayed-within order i d session h at state before =
+      units-within capacity script book before.capacity_is order session (drop (suc i) order)
+      (ap (λ (o : List ℕ). o ++ session ∷ drop (suc i) order) before.order_is
+      ∙ ap (λ (s : ℕ). take i order ++ s ∷ drop (suc i) order) at
+      ∙ ap (λ (rest : List ℕ). take i order ++ rest) (sym (drop-cons order i d h))
+      ∙ take-append-drop i order)
+      state
+
+  -- a book that took the first steps of a round took no more units than the round has
+  pub round-units : (i last : ℕ) → IsRound capacity script i last book → units_taken script book ≤ units_in capacity script.extent (round_order capacity script) (opening_run script)
+  round-units i last before =
+      units-before capacity script book before.capacity_is (round_order capacity script) (turns_from capacity (most_steps script - i) script.extent last (run_of script book)) before.rest
+
+  -- nor does it with the step of the session whose turn is next
+  pub round-within : (i last session : ℕ) → i < most_steps script → next_turn script.extent last (run_of script book) ≡ Some session → (run_of script book).state ≡ state_of book
+      → IsRound capacity script i last book
+      → units_taken script book + units_of (state_of book) (next_request script.extent session (run_of script book)) ≤ units_in capacity script.extent (round_order capacity script) (opening_run script)
+  round-within i last session h turn state before =
+      let left : ℕ = most_steps script - (i + 1) in
+      let next : most_steps script - i ≡ suc left = omega arith in
+      units-within capacity script book before.capacity_is (round_order capacity script) session (turns_from capacity left script.extent session (stepped capacity script.extent session (run_of script book)))
+      (ap (λ (o : List ℕ). order_of book ++ o) (sym (turn-here capacity left script.extent last session (run_of script book) turn))
+      ∙ ap (λ (n : ℕ). order_of book ++ turns_from capacity n script.extent last (run_of script book)) (sym next)
+      ∙ before.rest)
+      state
+
+-- a count that has come so far is within that of the order
+pub at-most : (first now taken whole : ℕ) → now ≡ first + taken → taken ≤ whole → (first ≤ now) × (now ≤ first + whole)
+at-most first now taken whole is within = (omega arith, omega arith)
+
+-- so it is when a step gives up on its way
+pub at-most_with : (first before now taken more whole : ℕ) → before ≡ first + taken → (before ≤ now) × (now ≤ before + more) → taken + more ≤ whole → (first ≤ now) × (now ≤ first + whole)
+at-most_with first before now taken more whole is step within = (omega (arith, step.0), omega (arith, step.1))
 
 -- before its first step a book has taken no units
 pub no-units : (script : ScriptValue) (book : BookValue) → order_of book ≡ [] → (first : ℕ) → first ≡ first + units_taken script book

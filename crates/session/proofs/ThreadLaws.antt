@@ -3,6 +3,7 @@ use Rattle.std.proofs.Common.{◌≡◌, ◌∙◌, ℕ, zero, suc, ◌+◌, ◌
 use Rattle.std.specs.Prelude.{All, Contains, Result, Ok, Err, IfOk}
 use Rattle.std.proofs.lemmas.List.Elements.{All-contains}
 use mathlib.Core.List.{IsPrefix}
+use base.Growing.{prefix_trans}
 use Rattle.turnstile.specs.declared.kept.Kept.{Ghosts}
 use Rattle.turnstile.specs.declared.pass.Pass.{Pass}
 use Rattle.turnstile.specs.declared.turnstile.Turnstile.{Turnstile}
@@ -50,6 +51,7 @@ module _ {g : Ghosts BookInTurn Step} (t : Turnstile BookInTurn Step) (frame : L
 
 -- ---- passes that come back
 module _ (t : Turnstile BookInTurn Step) (frame : List ℕ) (script : ScriptValue) where
+  -- works that are done under labels one after another are done as a list
   pub worked-each : (label : ℕ) (ws : List Worked) → ((i : ℕ) (d : Worked) → i < length ws → HasWorked t frame script (label + i) (slice_index_or ws i d)) → HaveWorked t frame script label ws
   worked-each label [] each = tt
   worked-each label (w ∷ ws) each = (
@@ -64,9 +66,6 @@ module _ (t : Turnstile BookInTurn Step) (frame : List ℕ) (script : ScriptValu
   worked-at label (v ∷ ws) (suc i) d w all below is = subst (λ (n : ℕ). HasWorked t frame script n w) (omega arith) (worked-at (suc label) ws i d w all.1 (omega arith) is)
 
 -- ---- passes that are joined
-prefix-trans : {A : Type 0} (xs ys zs : List A) → IsPrefix xs ys → IsPrefix ys zs → IsPrefix xs zs
-prefix-trans xs ys zs p q = (p.0 ++ q.0, sym (append_assoc xs p.0 q.0) ∙ (ap (λ (l : List _). l ++ q.0) p.1 ∙ q.1))
-
 -- a pass knows more than another: it has seen more, and joined more
 pub record KnowsMore (old new : PassView Step) : Type 0 where
   -- the frame stays
@@ -108,7 +107,7 @@ module _ (script : ScriptValue) (old new : PassView Step) (more : KnowsMore old 
     label_is = is.label_is;
     frame_is = is.frame_is ∙ sym more.frame;
     serving = is.serving;
-    seen = prefix-trans is.pass.seen old.seen new.seen is.seen more.seen;
+    seen = prefix_trans is.pass.seen old.seen new.seen is.seen more.seen;
     own = more.joined (label, is.pass.own) is.own;
   }
 
@@ -168,7 +167,7 @@ module _ (script : ScriptValue) (is_script : IsScript script) (head : PassView S
     is-taken : IsTaken pass book.history
     is-taken = record {
       book = subst IsBook is-book is_book;
-      seen = prefix-trans pass.seen head.seen book.history is.seen begins;
+      seen = prefix_trans pass.seen head.seen book.history is.seen begins;
       own = ap (λ (l : ℕ). of_label session_of l book.history) is.label_is ∙ All-contains (λ (j : ℕ × List Step). of_label session_of j.0 book.history ≡ j.1) head.joined (label, pass.own) own is.own;
     }
 

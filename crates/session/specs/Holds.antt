@@ -1,10 +1,12 @@
 -- The book behind the turnstile, and what one hold of it does.
-use Rattle.std.specs.Prelude.{◌≡◌, ℕ, ◌<◌, ◌^◌, false, true, List, [], ◌∷◌, ◌++◌, length, Option}
+use Rattle.std.specs.Prelude.{◌≡◌, ℕ, ◌+◌, ◌<◌, ◌≤◌, ◌^◌, ◌⊎◌, false, true, List, [], ◌∷◌, ◌++◌, length, Option}
 use mathlib.Core.List.{IsPrefix}
 use Rattle.turnstile.specs.declared.view.PassView.{PassView}
 use Rattle.turnstile.specs.Entries.{of_label}
+use Rattle.book.specs.declared.query.Query.{Query}
 use Rattle.book.specs.declared.step.Step.{Step}
 use Rattle.book.specs.Play.{Request, PendingLook, pending_of, session_of, step_of}
+use Rattle.book.specs.Looks.{look_visits}
 use Rattle.book.specs.Books.{BookValue, IsBook, IsSession, state_of}
 
 -- what no hold changes: the width, the depth, the capacity and the number of sessions
@@ -45,6 +47,17 @@ pub record IsTaken (v : PassView Step) (history : List Step) : Type 0 where
 pub record Adds (v w : PassView Step) (history : List Step) (request : Request) : Type 0 where
   pub taken : IsTaken v history
   pub after : w ≡ with_step v history (step_of (state_of (book_of v.frame history)) request)
+
+-- A hold that gave up: the pass added nothing, knows all that it knew, and is without the turn.
+pub record GaveUp (v w : PassView Step) : Type 0 where
+  pub own : w.own ≡ v.own
+  pub seen : IsPrefix v.seen w.seen
+  pub turn : w.turn ≡ false
+
+-- a look that gave up took no more units than there are nodes to visit in the book that it found, and none where it found none
+abbrev pub TookAtMost : PassView Step → Query → ℕ → ℕ → Type 0
+TookAtMost v q before after =
+    (after ≡ before) ⊎ ((history : List Step) × IsTaken v history × (after ≤ before + look_visits (state_of (book_of v.frame history)) q))
 
 -- the session of a pass may take a step more, as far as steps are counted
 pub record CanStep (v : PassView Step) : Type 0 where

@@ -1,12 +1,12 @@
 //! The book behind a turnstile, and what a session does in one hold of the turn.
-ghost use Rattle.std.specs.Prelude.{◌≡◌, ◌+◌, ◌<◌, ◌^◌, true, false, ℕ, List, None, length, IfOk, OnOk, OnErr};
+ghost use Rattle.std.specs.Prelude.{◌≡◌, ◌+◌, ◌<◌, ◌≤◌, ◌^◌, true, false, ℕ, List, None, length, IfOk, OnOk, OnErr};
 ghost use Rattle.turnstile.specs.Passes.{view, IsPassOf};
 ghost use Rattle.versions.specs.Versions.{IsEdit, edit_reply};
 ghost use Rattle.book.specs.declared.step.Step.{Step as TheStep};
 ghost use Rattle.book.specs.Play.{Editing, Looking, Settling};
 ghost use Rattle.book.specs.Looks.{IsQuery, AllowsSignatures, look_visits};
 ghost use Rattle.book.specs.Books.{IsSettledBy, state_of, log_of};
-ghost use Rattle.session.specs.Holds.{seen_book, book_of, pending_in, CanStep, IsTaken, IsStill, Adds};
+ghost use Rattle.session.specs.Holds.{seen_book, book_of, pending_in, CanStep, IsTaken, IsStill, Adds, GaveUp, TookAtMost};
 ghost use Rattle.session.specs.Looks.{IsLooked};
 ghost use Rattle.session.specs.Turns.{IsIdle};
 
@@ -61,7 +61,8 @@ fn take<R: Wait>(
     requires steps { CanStep (view pass.old) }
     ensures still { IsStill (view pass.old) (view pass.new) }
     ensures ok { IfOk result (λ book. IsPassOf turns.now pass.new × IsTaken (view pass.old) book.history × (book ≡ book_of (view pass.old).frame book.history) × (view pass.new ≡ record (view pass.old) { turn = true; taken = book.history })) }
-    ensures err { OnErr result (IsIdle turns.now pass.new) }
+    ensures idle { OnErr result (IsIdle turns.now pass.new) }
+    ensures err { OnErr result (GaveUp (view pass.old) (view pass.new)) }
 {
     let BookInTurn { book } = turns.take(rt, pass);
     let _version = book.version();
@@ -87,6 +88,7 @@ pub fn edit<R: Wait>(
     ensures idle { IsIdle turns.now pass.new }
     ensures still { IsStill (view pass.old) (view pass.new) }
     ensures adds { IfOk result (λ reply. (history : List TheStep) × Adds (view pass.old) (view pass.new) history (Editing (view pass.old).label e.now) × (reply ≡ edit_reply (state_of (book_of (view pass.old).frame history)).edits e.now)) }
+    ensures err { OnErr result (GaveUp (view pass.old) (view pass.new)) }
 {
     let mut book = take(rt, turns, pass)?;
     match book.edit(alloc, pass.label(), e) {
@@ -118,6 +120,9 @@ pub fn look<R: Wait, L: Ledger>(
     ensures idle { IsIdle turns.now pass.new }
     ensures still { IsStill (view pass.old) (view pass.new) }
     ensures adds { IfOk result (λ looked. (history : List TheStep) × Adds (view pass.old) (view pass.new) history (Looking (view pass.old).label q) × IsLooked (view pass.old).label q (book_of (view pass.old).frame history) looked × (steps.new ≡ steps.old + look_visits (state_of (book_of (view pass.old).frame history)) q)) }
+    ensures err { OnErr result (GaveUp (view pass.old) (view pass.new)) }
+    ensures counted { steps.old ≤ steps.new }
+    ensures at_most { OnErr result (TookAtMost (view pass.old) q steps.old steps.new) }
 {
     let mut book = take(rt, turns, pass)?;
     match look_at(alloc, &mut book, pass.label(), q, steps) {
@@ -145,6 +150,7 @@ pub fn settle<R: Wait>(
     ensures idle { IsIdle turns.now pass.new }
     ensures still { IsStill (view pass.old) (view pass.new) }
     ensures adds { OnOk result ((history : List TheStep) × Adds (view pass.old) (view pass.new) history (Settling (view pass.old).label)) }
+    ensures err { OnErr result (GaveUp (view pass.old) (view pass.new)) }
 {
     let mut book = take(rt, turns, pass)?;
     match book.settle(pass.label(), solved) {

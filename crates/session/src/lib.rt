@@ -3,13 +3,13 @@
 
 pub mod answer;
 pub mod basis;
-pub mod held;
+mod held;
 pub mod laws;
-pub mod look;
+mod look;
 pub mod orders;
 mod query;
-pub mod run;
-pub mod serve;
+mod run;
+mod serve;
 pub mod threads;
 mod value;
 

@@ -88,7 +88,8 @@ fn answer_work<G: Gate, L: Ledger>(
     ensures members { IfOk result (λ r. HasMembers basis.now r.0) }
     ensures nodes { IfOk result (λ r. AreSolved basis.now (all_missed work.now.plans) r.1.nodes.items) }
     ensures ticks { OnOk result (steps.new ≡ steps.old + sum_by exps_of work.now.plans) }
-    ensures at_most { (steps.old ≤ steps.new) × (steps.new ≤ steps.old + sum_by exps_of work.now.plans) }
+    ensures counted { steps.old ≤ steps.new }
+    ensures at_most { steps.new ≤ steps.old + sum_by exps_of work.now.plans }
 {
     let solved = solve(alloc, work, basis.hall(), session, gate, steps)?;
     let answer = answer_of(alloc, basis, kind, reply, &solved.sig)?;
@@ -111,7 +112,8 @@ pub fn answer_look<G: Gate, L: Ledger>(
     ensures solved { (old : BookValue) → IsLookedFor basis.now session ask.now old looked.now → IfOk result (λ r. let new = with_request (Looking session (asked_query basis.now ask.now)) old in IsSolvedFor (log_of new) (pending_of session (state_of new).pending) r.1) }
     ensures pending { (old : BookValue) → IsLookedFor basis.now session ask.now old looked.now → IfOk result (λ r. is_some r.1 ≡ is_some (pending_of session (state_of (with_request (Looking session (asked_query basis.now ask.now)) old)).pending)) }
     ensures ticks { (old : BookValue) → IsLookedFor basis.now session ask.now old looked.now → OnOk result (steps.new ≡ steps.old + exps_for (state_of old) (asked_query basis.now ask.now)) }
-    ensures at_most { (old : BookValue) → IsLookedFor basis.now session ask.now old looked.now → (steps.old ≤ steps.new) × (steps.new ≤ steps.old + exps_for (state_of old) (asked_query basis.now ask.now)) }
+    ensures counted { steps.old ≤ steps.new }
+    ensures at_most { (old : BookValue) → IsLookedFor basis.now session ask.now old looked.now → steps.new ≤ steps.old + exps_for (state_of old) (asked_query basis.now ask.now) }
 {
     match &looked.look {
         Look::Work(work) => {

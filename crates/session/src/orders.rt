@@ -101,7 +101,7 @@ fn next_turn(run: &Run, script: &Script, last: u32) -> Option<u32>
 }
 
 /// The outcome of a script whose sessions take their steps in this order, refused exactly as `ReplayFault` says. The cache keeps so many
-/// nodes at most. Takes one unit for each visited node and each row that is exponentiated.
+/// nodes at most. Takes one unit for each visited node and each row that is exponentiated, and never more than the whole order has.
 pub fn replay<L: Ledger>(
     alloc: Global,
     script: &Script,
@@ -114,6 +114,7 @@ pub fn replay<L: Ledger>(
     ensures members { IfOk result (AllHaveMembers script.now.extent) }
     ensures illegal { (place : ℕ) → result ≡ Err (ReplayFault.Order place) → illegal_place capacity script.now order.now ≡ Some place }
     ensures ticks { OnOk result (steps.new ≡ steps.old + units_in capacity script.now.extent order.now (opening_run script.now)) }
+    ensures at_most { (steps.old ≤ steps.new) × (steps.new ≤ steps.old + units_in capacity script.now.extent order.now (opening_run script.now)) }
 {
     let basis = Basis::build(alloc, script.shape())?;
     let mut run = opening(alloc, script, capacity)?;
@@ -141,7 +142,7 @@ fn most_steps(script: &Script) -> u64
 }
 
 /// The outcome of a script whose sessions take one step each in turn. The cache keeps so many nodes at most. Takes one
-/// unit for each visited node and each row that is exponentiated.
+/// unit for each visited node and each row that is exponentiated, and never more than the whole round has.
 pub fn replay_round<L: Ledger>(
     alloc: Global,
     script: &Script,
@@ -151,6 +152,7 @@ pub fn replay_round<L: Ledger>(
     ensures outcome { IfOk result (λ outcome. IsOutcome script.now.extent outcome (due_outcome capacity script.now (round_order capacity script.now))) }
     ensures members { IfOk result (AllHaveMembers script.now.extent) }
     ensures ticks { OnOk result (steps.new ≡ steps.old + units_in capacity script.now.extent (round_order capacity script.now) (opening_run script.now)) }
+    ensures at_most { (steps.old ≤ steps.new) × (steps.new ≤ steps.old + units_in capacity script.now.extent (round_order capacity script.now) (opening_run script.now)) }
 {
     let basis = Basis::build(alloc, script.shape())?;
     let mut run = opening(alloc, script, capacity)?;

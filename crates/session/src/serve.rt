@@ -1,5 +1,6 @@
 //! What a session does on its pass: its commands one after another, each step in a hold of its own.
-ghost use Rattle.std.specs.Prelude.{◌≡◌, ◌+◌, ◌-◌, ◌<◌, ◌++◌, ◌∷◌, [], ℕ, List, length, IfOk, OnOk};
+ghost use Rattle.std.specs.Prelude.{◌≡◌, ◌+◌, ◌-◌, ◌<◌, ◌≤◌, ◌++◌, ◌∷◌, [], ℕ, List, length, IfOk, OnOk};
+ghost use mathlib.Core.List.{IsPrefix};
 ghost use Rattle.turnstile.specs.Passes.{view};
 ghost use Rattle.turnstile.specs.Views.{new_pass};
 ghost use Rattle.definitions.specs.Words.{Extent};
@@ -45,6 +46,7 @@ fn serve_edit<R: Wait>(
     ensures still { IsStill (view pass.old) (view pass.new) }
     ensures served { (taken : ℕ) → (answers : List TheAnswer) → IsServing script.now (view pass.old) taken answers → IsNextCommand script.now (view pass.old).label taken (EditCommand edit.now) →
         IfOk result (λ answer. IsServing script.now (view pass.new) (taken + 1) (answers ++ answer ∷ [])) }
+    ensures kept { IsPrefix (view pass.old).own (view pass.new).own }
     ensures units { OnOk result (units_by (moments_of (seen_book (view pass.new)) (view pass.old).label) ≡ units_by (moments_of (seen_book (view pass.old)) (view pass.old).label)) }
 {
     let _shape = script.shape();
@@ -71,6 +73,8 @@ fn serve_ask<R: Wait, G: Gate, L: Ledger>(
     ensures still { IsStill (view pass.old) (view pass.new) }
     ensures served { (taken : ℕ) → (answers : List TheAnswer) → IsServing script.now (view pass.old) taken answers → IsNextCommand script.now (view pass.old).label taken (AskCommand ask.now) →
         IfOk result (λ answer. IsServing script.now (view pass.new) (taken + 1) (answers ++ answer ∷ [])) }
+    ensures kept { IsPrefix (view pass.old).own (view pass.new).own }
+    ensures counted { steps.old ≤ steps.new }
     ensures ticks { OnOk result (steps.new + units_by (moments_of (seen_book (view pass.old)) (view pass.old).label) ≡ steps.old + units_by (moments_of (seen_book (view pass.new)) (view pass.old).label)) }
 {
     let _shape = script.shape();
@@ -104,6 +108,8 @@ fn serve_command<R: Wait, G: Gate, L: Ledger>(
     ensures still { IsStill (view pass.old) (view pass.new) }
     ensures served { (taken : ℕ) → (answers : List TheAnswer) → IsServing script.now (view pass.old) taken answers → IsNextCommand script.now (view pass.old).label taken command.now →
         IfOk result (λ answer. IsServing script.now (view pass.new) (taken + 1) (answers ++ answer ∷ [])) }
+    ensures kept { IsPrefix (view pass.old).own (view pass.new).own }
+    ensures counted { steps.old ≤ steps.new }
     ensures ticks { OnOk result (steps.new + units_by (moments_of (seen_book (view pass.old)) (view pass.old).label) ≡ steps.old + units_by (moments_of (seen_book (view pass.new)) (view pass.old).label)) }
 {
     match command {
@@ -113,7 +119,7 @@ fn serve_command<R: Wait, G: Gate, L: Ledger>(
 }
 
 /// Does the commands of the pass's session, whose number is the label of the pass, and gives their answers. Takes one unit for each
-/// node that its looks visit and each row that is exponentiated for them.
+/// node that its looks visit and each row that is exponentiated for them. After want of memory the steps that were taken stay.
 pub fn serve<R: Wait, G: Gate, L: Ledger>(
     rt: &R,
     alloc: Global,
@@ -130,6 +136,8 @@ pub fn serve<R: Wait, G: Gate, L: Ledger>(
     ensures idle { IsIdle turns.now pass.new }
     ensures still { IsStill (view pass.old) (view pass.new) }
     ensures served { IfOk result (λ transcript. IsServing script.now (view pass.new) (length (of_session (view pass.old).label script.now.sessions)) transcript) }
+    ensures kept { IsPrefix (view pass.old).own (view pass.new).own }
+    ensures counted { steps.old ≤ steps.new }
     ensures ticks { OnOk result (steps.new ≡ steps.old + units_by (moments_of (seen_book (view pass.new)) (view pass.old).label)) }
 {
     let mut transcript = Transcript::new(alloc);

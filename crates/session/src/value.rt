@@ -14,33 +14,12 @@ ghost use Rattle.session.specs.Answers.{Shows, HasMembers, IsAllowed};
 use crate::answer::Answer;
 use crate::basis::Basis;
 use book::LookReply;
-use dynkin_map::{DynkinTable, LieFault};
-use exp_log::{LogFault, log};
-use lie_bracket::{LieElement, TableFault};
+use dynkin_map::log_signature;
+use lie_bracket::TableFault;
 use script_reader::Kind;
 use std::alloc::Global;
 use tensor_product::Sig;
 use words::Memory;
-
-/// The coordinates of the logarithm of a signature whose weight fits.
-fn coordinates_of(alloc: Global, dynkin: &DynkinTable, sig: &Sig) -> Result<LieElement, Memory>
-    requires extent { sig.now.tensor.extent ≡ dynkin.now }
-    requires shape { IsShape dynkin.now }
-    requires fits { Fits (lie_bounds dynkin.now) sig.now.weight }
-    ensures value { (moves : List Parts) → StandsFor sig.now moves → IfOk result (λ z. z ≡ coordinates dynkin.now (logarithm (signature moves))) }
-    ensures members { IfOk result (λ z. All (λ t. InHall (hall_list dynkin.now.width dynkin.now.depth) t.number) z) }
-{
-    let logarithm = match log(alloc, sig) {
-        Ok(logarithm) => logarithm,
-        Err(LogFault::Memory) => return Err(Memory),
-        Err(LogFault::Overflow(_)) => unreachable!(),
-    };
-    match dynkin.to_lie(alloc, &logarithm) {
-        Ok(lie) => Ok(lie),
-        Err(LieFault::Memory) => Err(Memory),
-        Err(LieFault::Overflow(_)) => unreachable!(),
-    }
-}
 
 /// The answer with this reply, from the signature of the rows, which have a value of this kind.
 pub fn answer_of(
@@ -63,7 +42,7 @@ pub fn answer_of(
         Kind::Log => match basis.tables(alloc) {
             Ok(held) => Ok(Answer::Log {
                 reply,
-                lie: coordinates_of(alloc, held.get().dynkin(), sig)?,
+                lie: log_signature(alloc, held.get().dynkin(), sig)?,
             }),
             Err(TableFault::Memory) => Err(Memory),
             Err(TableFault::Pair(_, _) | TableFault::Level(_)) => unreachable!(),

@@ -1,10 +1,10 @@
 -- The book that the pass takes is ready for a look of its session, which is then the last step.
-use Rattle.std.proofs.Common.{◌∙◌, ◌+◌, refl, ap}
+use Rattle.std.proofs.Common.{◌∙◌, ◌+◌, ◌≤◌, refl, ap, subst, arith, inr}
 use Rattle.book.specs.Play.{Looking}
 use Rattle.book.specs.Looks.{look_visits}
 use Rattle.book.specs.Books.{BookValue, state_of}
 use Rattle.session.specs.Holds.{frame_of}
-use Rattle.session.proofs.HoldLaws.{holds, holds-free, holds-frame, holds-entry, holds-adds, holds-looked, added-still, added-idle}
+use Rattle.session.proofs.HoldLaws.{holds, holds-free, holds-frame, holds-entry, holds-adds, holds-gave_up, holds-still, holds-looked, added-still, added-idle}
 use Rattle.session.proofs.held.look.Goals as goal
 
 pub look_at-requires-clause-free : goal.look_at-requires-clause-free
@@ -40,5 +40,26 @@ returns-in-Ok g c =
         adds,
         holds-looked is c.in-Ok.ensures.looked,
         c.in-Ok.ensures.ticks ∙ ap (λ (book : BookValue). c.args.steps.now + look_visits (state_of book) c.args.q) took.2,
+      );
+      err = tt;
+      counted = omega (arith, c.in-Ok.ensures.ticks);
+      at_most = tt;
+    }
+
+pub returns-in-Err : goal.returns-in-Err
+returns-in-Err g c =
+    let took = c.in_ok-book.ensures.ok in
+    let is = holds c.requires.steps took.1 took.2 took.3 c.label.ensures in
+    let gave = holds-gave_up is _ c.give_back.ensures.given in
+    record {
+      idle = (c.give_back.ensures.own, gave.turn);
+      still = holds-still is _ c.give_back.ensures.given;
+      adds = tt;
+      err = gave;
+      counted = c.in-Err.ensures.at_most.0;
+      at_most = inr (
+        c.in_ok-book.book.history,
+        took.1,
+        subst (λ (book : BookValue). c.look_at.new.steps ≤ c.args.steps.now + look_visits (state_of book) c.args.q) took.2 c.in-Err.ensures.at_most.1,
       );
     }

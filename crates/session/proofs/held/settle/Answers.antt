@@ -1,7 +1,7 @@
 -- The pending look of the session is as it was, and its settle is the last step.
 use Rattle.std.proofs.Common.{◌∙◌, refl}
 use Rattle.book.specs.Play.{Settling}
-use Rattle.session.proofs.HoldLaws.{holds, holds-ready, holds-settled, holds-entry, holds-adds, added-still, added-idle}
+use Rattle.session.proofs.HoldLaws.{holds, holds-ready, holds-settled, holds-entry, holds-adds, holds-gave_up, holds-still, added-still, added-idle}
 use Rattle.session.proofs.held.settle.Goals as goal
 
 pub settle-requires-clause-ready : goal.settle-requires-clause-ready
@@ -28,4 +28,17 @@ returns-in-Ok g c =
       idle = (c.give.ensures.own, added-idle adds);
       still = added-still adds;
       adds = (c.in_ok-book.book.history, adds);
+      err = tt;
+    }
+
+pub returns-in-Err : goal.returns-in-Err
+returns-in-Err g c =
+    let took = c.in_ok-book.ensures.ok in
+    let is = holds c.requires.steps took.1 took.2 took.3 c.label.ensures in
+    let gave = holds-gave_up is _ c.give_back.ensures.given in
+    record {
+      idle = (c.give_back.ensures.own, gave.turn);
+      still = holds-still is _ c.give_back.ensures.given;
+      adds = tt;
+      err = gave;
     }

@@ -16,8 +16,7 @@ asked g c old is = asked-work c.args.basis.now c.args.session c.args.ask.now old
 pub returns-in_err-answer-in-Work-clause-at_most : goal.returns-in_err-answer-in-Work-clause-at_most
 returns-in_err-answer-in-Work-clause-at_most g c = λ old is.
     let known = asked g (goal.at.returns-in_err-answer-in-Work-clause-at_most g c).In-Work old is in
-    let most = c.in_err-answer-in-Work.ensures.at_most in
-    (most.0, subst (λ (n : ℕ). c.answer_work.new.steps ≤ c.args.steps.now + n) (asked-exps c.args.basis.now c.args.session c.args.ask.now old c.in-Work.work known) most.1)
+    subst (λ (n : ℕ). c.answer_work.new.steps ≤ c.args.steps.now + n) (asked-exps c.args.basis.now c.args.session c.args.ask.now old c.in-Work.work known) c.in_err-answer-in-Work.ensures.at_most
 
 pub returns-after-looked-clause-solved : goal.returns-after-looked-clause-solved
 returns-after-looked-clause-solved g c = λ old is.
@@ -33,8 +32,7 @@ returns-after-looked-clause-ticks g c = λ old is.
 pub returns-after-looked-clause-at_most : goal.returns-after-looked-clause-at_most
 returns-after-looked-clause-at_most g c = λ old is.
     let known = asked g (goal.at.returns-after-looked-clause-at_most g c).In-Work old is in
-    let most = c.in_ok-answer-in-Work.ensures.at_most in
-    (most.0, subst (λ (n : ℕ). c.answer_work.new.steps ≤ c.args.steps.now + n) (asked-exps c.args.basis.now c.args.session c.args.ask.now old c.in-Work.work known) most.1)
+    subst (λ (n : ℕ). c.answer_work.new.steps ≤ c.args.steps.now + n) (asked-exps c.args.basis.now c.args.session c.args.ask.now old c.in-Work.work known) c.in_ok-answer-in-Work.ensures.at_most
 
 pub returns-in_default : goal.returns-in_default
 returns-in_default g c =
@@ -51,5 +49,6 @@ returns-in_default g c =
       solved = λ old is. let new : BookValue = with_request (Looking session (query_for shape ask)) old in solved-none (log_of new) (pending_of session (state_of new).pending) None (none old is);
       pending = λ old is. sym (ap (λ (o : Option PendingLook). is_some o) (none old is));
       ticks = λ old is. omega (arith, refused-exps shape session ask old looked refused is);
-      at_most = λ old is. (omega arith, omega arith);
+      counted = omega arith;
+      at_most = λ old is. omega arith;
     }

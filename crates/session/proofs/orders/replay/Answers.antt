@@ -3,7 +3,7 @@ use Rattle.std.specs.Prelude.{Some, is_some}
 use Rattle.session.specs.Play.{next_turn}
 use Rattle.session.specs.Answers.{IsOutcome}
 use Rattle.session.specs.Runs.{run_of}
-use Rattle.session.proofs.OrderLaws.{replayed-none, replayed-more, replay-stops, replay-lacks, replay-ends, replayed-order, units-on, no-units, all-units, whole-outcome}
+use Rattle.session.proofs.OrderLaws.{replayed-none, replayed-more, replay-stops, replay-lacks, replay-ends, replayed-order, units-on, no-units, all-units, at-most, at-most_with, replayed-units, replayed-within, whole-outcome}
 use Rattle.session.proofs.orders.replay.Goals as goal
 
 pub loop-before-init : goal.loop-before-init
@@ -76,3 +76,31 @@ returns-clause-ticks g c =
     c.loop-before.invariant.ticks
     ∙ ap (λ (n : ℕ). c.args.steps.now + n)
     (all-units c.args.capacity c.args.script.now book order before.capacity_is (replayed-order c.args.capacity c.args.script.now book order c.loop-before.before c.loop-before-test.false before))
+
+-- ---- what stands after each answer
+pub returns-then-not-has_next-clause-at_most : goal.returns-then-not-has_next-clause-at_most
+returns-then-not-has_next-clause-at_most g c =
+    at-most c.args.steps.now c.loop-before.steps _ _ c.loop-before.invariant.ticks
+    (replayed-units c.args.capacity c.args.script.now c.loop-before.run.book c.args.order.now c.loop-before.before c.loop-before.invariant.replayed)
+
+pub returns-in_err-step-clause-at_most : goal.returns-in_err-step-clause-at_most
+returns-in_err-step-clause-at_most g c =
+    let i = c.loop-before.before in
+    at-most_with c.args.steps.now c.loop-before.steps c.step.new.steps _ _ _ c.loop-before.invariant.ticks c.in_err-step.ensures.at_most
+    (replayed-within c.args.capacity c.args.script.now c.loop-before.run.book c.args.order.now i 0 (get_or c.args.order.now i 0) c.loop-before-test.true refl c.loop-before.invariant.is_run.state
+    c.loop-before.invariant.replayed)
+
+pub returns-then-is_some-clause-at_most : goal.returns-then-is_some-clause-at_most
+returns-then-is_some-clause-at_most g c =
+    at-most c.args.steps.now c.loop-before.steps _ _ c.loop-before.invariant.ticks
+    (replayed-units c.args.capacity c.args.script.now c.loop-before.run.book c.args.order.now c.loop-before.before c.loop-before.invariant.replayed)
+
+pub returns-in_err-outcome_of_run-clause-at_most : goal.returns-in_err-outcome_of_run-clause-at_most
+returns-in_err-outcome_of_run-clause-at_most g c =
+    at-most c.args.steps.now c.loop-before.steps _ _ c.loop-before.invariant.ticks
+    (replayed-units c.args.capacity c.args.script.now c.loop-before.run.book c.args.order.now c.loop-before.before c.loop-before.invariant.replayed)
+
+pub returns-clause-at_most : goal.returns-clause-at_most
+returns-clause-at_most g c =
+    at-most c.args.steps.now c.loop-before.steps _ _ c.loop-before.invariant.ticks
+    (replayed-units c.args.capacity c.args.script.now c.loop-before.run.book c.args.order.now c.loop-before.before c.loop-before.invariant.replayed)

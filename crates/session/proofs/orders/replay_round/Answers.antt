@@ -4,7 +4,7 @@ use Rattle.session.specs.Play.{most_steps, next_turn, round_order}
 use Rattle.session.specs.Answers.{IsOutcome}
 use Rattle.session.specs.Runs.{run_of, order_of}
 use Rattle.session.proofs.TurnLaws.{turn-is}
-use Rattle.session.proofs.OrderLaws.{round-none, round-more, round-stops, round-ends, units-on, no-units, all-units, whole-outcome}
+use Rattle.session.proofs.OrderLaws.{round-none, round-more, round-stops, round-ends, units-on, no-units, all-units, at-most, at-most_with, round-units, round-within, whole-outcome}
 use Rattle.session.proofs.orders.replay_round.Goals as goal
 use Rattle.session.proofs.orders.replay_round.Goals.{else-loop-step-test, then-loop-step-test+in_default}
 
@@ -65,4 +65,16 @@ returns g c =
       outcome = whole-outcome c.args.capacity script book due round.capacity_is taken (λ due. IfOk c.outcome_of_run.result (λ outcome. IsOutcome script.extent outcome due)) outcome.outcome;
       members = outcome.members;
       ticks = on_ok c.outcome_of_run.result (c.loop-step.invariant.ticks ∙ ap (λ (n : ℕ). c.args.steps.now + n) (all-units c.args.capacity script book due round.capacity_is taken));
+      at_most =
+          at-most c.args.steps.now c.loop-step.steps _ _ c.loop-step.invariant.ticks
+          (round-units c.args.capacity script book c.loop-step._step c.loop-step.last round);
     }
+
+pub returns-in_err-step-clause-at_most : goal.returns-in_err-step-clause-at_most
+returns-in_err-step-clause-at_most g c =
+    let script = c.args.script.now in
+    let book = c.loop-step.run.book in
+    let before = c.loop-step.invariant in
+    let most : c.loop-step._step < most_steps script = omega (arith, c.loop-step-test.true, c.most_steps-step-end.ensures) in
+    at-most_with c.args.steps.now c.loop-step.steps c.step.new.steps _ _ _ before.ticks c.in_err-step.ensures.at_most
+    (round-within c.args.capacity script book c.loop-step._step c.loop-step.last c.in-Some.session most (sym c.in-Some.ensures) before.is_run.state before.round)

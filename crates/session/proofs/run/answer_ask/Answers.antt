@@ -65,4 +65,4 @@ pub returns-clause-at_most : goal.returns-clause-at_most
 returns-clause-at_most g c =
     let at = (goal.at.returns-clause-at_most g c).In_ok-looked in
     let most = c.answer_look.ensures.at_most c.args.book.now (asked g at) in
-    (omega (arith, most.0, visits-are g at), omega (arith, most.1, visits-are g at))
+    (omega (arith, c.answer_look.ensures.counted, visits-are g at), omega (arith, most, visits-are g at))

@@ -1,4 +1,5 @@
 use Rattle.std.proofs.Common.{◌+◌, sym, subst, List}
+use base.Growing.{prefix_trans}
 use Rattle.turnstile.specs.Passes.{view}
 use Rattle.session.specs.declared.answer.Answer.{Answer}
 use Rattle.session.specs.Serving.{IsServing}
@@ -33,5 +34,6 @@ loop-command-preserved g c =
       idle = did.idle;
       still = still-on v w u before.still did.still;
       serving = subst (λ (transcript : List Answer). IsServing script u (index + 1) transcript) (sym c.in_ok-push.ensures.ok) (did.served index c.loop-command.transcript before.serving next);
+      kept = prefix_trans v.own w.own u.own before.kept did.kept;
       ticks = units-on v w u c.args.steps.now c.loop-command.steps c.serve_command.new.steps before.still before.ticks did.ticks;
     }

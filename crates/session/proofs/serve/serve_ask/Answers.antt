@@ -1,5 +1,7 @@
 use Rattle.std.proofs.Common.{◌≡◌, ◌∙◌, ℕ, ◌+◌, ◌++◌, ◌∷◌, [], refl, sym, ap, subst}
 use Rattle.std.specs.Prelude.{Option, Some, None}
+use mathlib.Core.List.{IsPrefix}
+use base.Growing.{prefix_trans}
 use Rattle.turnstile.specs.Passes.{view}
 use Rattle.solve.specs.declared.solution.Solved.{Solved}
 use Rattle.turnstile.specs.declared.view.PassView.{PassView}
@@ -8,6 +10,7 @@ use Rattle.book.specs.declared.step.Step.{Step}
 use Rattle.session.specs.Holds.{book_of, seen_book}
 use Rattle.session.specs.Moments.{moments_of, units_by}
 use Rattle.session.specs.Serving.{IsServing}
+use Rattle.session.proofs.HoldLaws.{added-own}
 use Rattle.session.proofs.ServingLaws.{can-step}
 use Rattle.session.proofs.ServeLaws.{IsAnswered, looked-for, answered, look-units, serving-alone, settle-can, settle-by, serving-settled, settle-units}
 use Rattle.session.proofs.serve.serve_ask.Given as given
@@ -112,3 +115,17 @@ returns-clause-ticks g c =
     ]
     in
     looked ∙ ap (λ (n : ℕ). c.args.steps.now + n) (sym units)
+
+pub returns-clause-kept : goal.returns-clause-kept
+returns-clause-kept g c =
+    let own = (view c.args.pass.now).own in
+    let looked = added-own c.in_ok-looked.ensures.adds.1 in
+    elim c.match-solved.branch [
+      | in-Some+in_ok-settle b ↦ (
+          let same : view c.match-solved.pass ≡ view b.settle.new.pass = ap view b.pass-is in
+          subst (λ (u : PassView Step). IsPrefix own u.own) (sym same)
+          (prefix_trans own (view c.look.new.pass).own (view b.settle.new.pass).own looked (added-own b.in_ok-settle.ensures.adds.1)))
+      | in_default b ↦ (
+          let same : view c.match-solved.pass ≡ view c.look.new.pass = ap view b.pass-is in
+          subst (λ (u : PassView Step). IsPrefix own u.own) (sym same) looked)
+    ]

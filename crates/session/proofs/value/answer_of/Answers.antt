@@ -9,8 +9,8 @@ use Rattle.session.specs.Answers.{IsAllowed}
 use Rattle.session.proofs.AllowedLaws.{allowed-fits}
 use Rattle.session.proofs.value.answer_of.Goals as goal
 
-pub coordinates_of-requires-clause-fits : goal.coordinates_of-requires-clause-fits
-coordinates_of-requires-clause-fits c =
+pub log_signature-requires-clause-fits : goal.log_signature-requires-clause-fits
+log_signature-requires-clause-fits c =
     let held : c.get.result.now ≡ c.args.basis.now = c.get.ensures ∙ c.in-Ok.ensures.tables in
     let same : c.args.basis.now ≡ c.dynkin.result.now = sym (c.dynkin.ensures.value ∙ held) in
     let allowed : IsAllowed c.args.basis.now Log c.args.sig.now.weight = subst (λ (kind : Kind). IsAllowed c.args.basis.now kind c.args.sig.now.weight) c.in-Log.is c.requires.allowed in
