@@ -32,7 +32,7 @@ term_json name value = list (string name ∷ string (signed_decimal value) ∷ [
 abbrev pub level_json : ℕ → List Data → Data
 level_json denominator terms = object (member (codes "over") (string (decimal denominator)) (member (codes "terms") (list terms) no_members))
 
--- the levels of a signature from 1 on
+-- the words of k letters with their coefficients, over k!
 abbrev pub signature_level : Extent → (List ℕ → ℤ) → ℕ → Data
 signature_level extent series k = level_json (factorial k) (flat_map (λ word. term_json (word_text word) (series word)) (words_of extent.width k))
 
@@ -40,7 +40,7 @@ signature_level extent series k = level_json (factorial k) (flat_map (λ word. t
 abbrev pub signature_levels : Extent → (List ℕ → ℤ) → List Data
 signature_levels extent series = map (signature_level extent series) (up_to extent.depth)
 
--- the levels of a logarithm
+-- a coordinate, where its member has degree k
 abbrev pub coordinate_json : List Member → ℕ → Term → List Data
 coordinate_json hall k t = if degree hall t.number == k then list (string (text_of hall t.number) ∷ string (signed_decimal t.factor) ∷ []) ∷ [] else []
 

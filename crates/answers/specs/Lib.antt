@@ -3,3 +3,4 @@ pub mod Json
 pub mod Generator
 pub mod Totals
 pub mod Told
+pub mod CbhText

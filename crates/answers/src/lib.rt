@@ -1,6 +1,7 @@
-//! The text that a run writes, the same in JSON, the script that a number generates, and the summary of its run.
+//! The text that a run writes, the same in JSON, the text of a product of exponentials, the script that a number generates, and the summary of its run.
 #![tactic(auto)]
 
+pub mod cbh;
 mod coordinates;
 mod generator;
 mod json_levels;
@@ -12,6 +13,7 @@ mod summary;
 mod tests;
 mod text;
 
+pub use cbh::{CbhResult, cbh_text};
 pub use generator::gen_script;
 pub use json_text::json_of;
 pub use summary::summary_of;

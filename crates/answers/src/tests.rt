@@ -1,6 +1,7 @@
 ghost use Rattle.std.specs.Prelude.{◌≡◌, ◌<◌, ◌≤◌};
+ghost use Rattle.answers.specs.CbhText.{HasNumbers};
 
-use crate::{gen_script, json_of, summary_of, text_of};
+use crate::{CbhResult, cbh_text, gen_script, json_of, summary_of, text_of};
 use hall_set::HallSet;
 use scaled_tensor::Tensor;
 use session::{Answer, EditReply, LookReply, Outcome, Transcript, replay_round};
@@ -21,6 +22,24 @@ fn tensor(alloc: Global, shape: Shape) -> Result<Tensor, Memory>
     tensor.set(&[2, 2], 9);
     Ok(tensor)
 }
+
+const EACH_ANSWER: &[u8] = b"shape 2 2
+session 1
+1 done 1
+2 name-taken 1
+3 no-row 1
+4 no-version 1
+5 overflow 60097
+6 sig version 1 hits 2 misses 3 exps 4
+level 1 over 1 (1)=2 (2)=-3
+level 2 over 2 (1,1)=4 (2,1)=-6 (2,2)=9
+order 1,2,1
+versions 1
+";
+
+const EACH_ANSWER_IN_JSON: &[u8] =
+    br#"{"order":[1,2,1],"sessions":[[{"command":1,"reply":"done","version":1},{"command":2,"reply":"name-taken","version":1},{"command":3,"reply":"no-row","version":1},{"command":4,"reply":"no-version","version":1},{"command":5,"reply":"overflow","weight":"60097"},{"command":6,"exps":4,"hits":2,"levels":[{"over":"1","terms":[["(1)","2"],["(2)","-3"]]},{"over":"2","terms":[["(1,1)","4"],["(2,1)","-6"],["(2,2)","9"]]}],"misses":3,"reply":"sig","version":1}]],"shape":[2,2],"versions":1}
+"#;
 
 #[test]
 fn each_answer(rt: HostRuntime) -> Result<(), Fail> {
@@ -48,28 +67,10 @@ fn each_answer(rt: HostRuntime) -> Result<(), Fail> {
         versions: 1,
     };
     let hall = HallSet::build(alloc, shape)?;
-    assert_eq!(rt;
-        text_of(alloc, &hall, &outcome)?.as_slice(),
-        b"shape 2 2
-session 1
-1 done 1
-2 name-taken 1
-3 no-row 1
-4 no-version 1
-5 overflow 60097
-6 sig version 1 hits 2 misses 3 exps 4
-level 1 over 1 (1)=2 (2)=-3
-level 2 over 2 (1,1)=4 (2,1)=-6 (2,2)=9
-order 1,2,1
-versions 1
-"
-            .as_slice()
-    );
+    assert_eq!(rt; text_of(alloc, &hall, &outcome)?.as_slice(), EACH_ANSWER);
     assert_eq!(rt;
         json_of(alloc, &hall, &outcome)?.as_slice(),
-        br#"{"order":[1,2,1],"sessions":[[{"command":1,"reply":"done","version":1},{"command":2,"reply":"name-taken","version":1},{"command":3,"reply":"no-row","version":1},{"command":4,"reply":"no-version","version":1},{"command":5,"reply":"overflow","weight":"60097"},{"command":6,"exps":4,"hits":2,"levels":[{"over":"1","terms":[["(1)","2"],["(2)","-3"]]},{"over":"2","terms":[["(1,1)","4"],["(2,1)","-6"],["(2,2)","9"]]}],"misses":3,"reply":"sig","version":1}]],"shape":[2,2],"versions":1}
-"#
-            .as_slice()
+        EACH_ANSWER_IN_JSON
     );
     Ok(())
 }
@@ -170,5 +171,25 @@ fn one_command(rt: HostRuntime) -> Result<(), Fail> {
         summary.as_slice(),
         b"gen 1\nsteps 1\nversions 1\nhits 0\nmisses 0\nexps 0\nsum 0\n".as_slice()
     );
+    Ok(())
+}
+
+/// The text of a product of seven exponentials that has no logarithm in coordinates.
+fn refusal_text(alloc: Global, shape: Shape, reply: &CbhResult) -> Result<String, Fail>
+    requires { HasNumbers shape reply.now }
+{
+    let hall = HallSet::build(alloc, shape)?;
+    Ok(String::from_utf8(cbh_text(alloc, shape, 7, reply, &hall)?)?)
+}
+
+#[test]
+fn products_without_logarithm(rt: HostRuntime) -> Result<(), Fail> {
+    let shape = Shape::new(2, 3)?;
+    let pair = refusal_text(rt.alloc(), shape, &CbhResult::Pair(3, 5))?;
+    assert_eq!(rt; pair.as_str(), "shape 2 3\ncbh 7\ngrowth 3 5\n");
+    let level = refusal_text(rt.alloc(), shape, &CbhResult::Level(2))?;
+    assert_eq!(rt; level.as_str(), "shape 2 3\ncbh 7\ngrowth-level 2\n");
+    let overflow = refusal_text(rt.alloc(), shape, &CbhResult::Overflow(6185))?;
+    assert_eq!(rt; overflow.as_str(), "shape 2 3\ncbh 7\noverflow 6185\n");
     Ok(())
 }

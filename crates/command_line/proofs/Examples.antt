@@ -2,7 +2,7 @@
 use Rattle.std.proofs.Common.{◌≡◌, [], ◌∷◌, refl}
 use Rattle.std.specs.Prelude.{codes}
 use Rattle.command_line.specs.declared.wish.Form.TheVariants.{Text, Json}
-use Rattle.command_line.specs.declared.wish.Wish.TheVariants.{Refused, Gen, Given, Threads}
+use Rattle.command_line.specs.declared.wish.Wish.TheVariants.{Refused, Gen, Given, Threads, Cbh}
 use Rattle.command_line.specs.Wishes.{wish_of}
 
 -- without words
@@ -69,3 +69,22 @@ empty_word = refl
 
 two_dashes : wish_of (codes "--" ∷ []) ≡ Refused
 two_dashes = refl
+
+-- the product of exponentials, which stands beside no other word
+product : wish_of (codes "--cbh" ∷ []) ≡ Cbh
+product = refl
+
+product_twice : wish_of (codes "--cbh" ∷ codes "--cbh" ∷ []) ≡ Refused
+product_twice = refl
+
+product_in_json : wish_of (codes "--cbh" ∷ codes "--json" ∷ []) ≡ Refused
+product_in_json = refl
+
+product_last : wish_of (codes "--json" ∷ codes "--cbh" ∷ []) ≡ Refused
+product_last = refl
+
+product_with_value : wish_of (codes "--cbh=1" ∷ []) ≡ Refused
+product_with_value = refl
+
+product_as_value : wish_of (codes "--cache" ∷ codes "--cbh" ∷ []) ≡ Refused
+product_as_value = refl

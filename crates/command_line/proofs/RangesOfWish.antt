@@ -15,7 +15,7 @@ use Rattle.command_line.specs.declared.wish.Wish.TheVariants as wishes
 use Rattle.command_line.specs.Values.{number_in, order_in}
 use Rattle.command_line.specs.Settings.{Kind, valued_named, setting_at, kind_alone, kind_of, before, settings_in}
 use Rattle.command_line.specs.Settings.Kind.{Whole, Name}
-use Rattle.command_line.specs.Wishes.{order_at, capacity_at, count_at, first_or, chosen, wish_in, wish_of, IsCount, IsInRange}
+use Rattle.command_line.specs.Wishes.{order_at, capacity_at, count_at, first_or, chosen, wish_in, IsCount, IsInRange}
 
 -- a number that a value spells is in its range
 number_within : (most : ℕ) (value : List ℕ) → IfSome (number_in most value) (λ number. (1 ≤ number) × (number ≤ most))
@@ -108,6 +108,6 @@ wish_within : (settings : Option (List Setting)) → IsWithin settings → IsInR
 wish_within (Some settings) within = wish_or_refused _ _ (chosen_within (filter_map order_at settings) _ _ (filter_map count_at settings) within)
 wish_within None within = tt
 
--- the wish of words
-pub wish_is_in_range : (words : List (List ℕ)) → IsInRange (wish_of words)
+-- the wish of the options in words
+pub wish_is_in_range : (words : List (List ℕ)) → IsInRange (wish_in (settings_in words))
 wish_is_in_range words = wish_within (settings_in words) (settings_within words)

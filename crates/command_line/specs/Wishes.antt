@@ -1,5 +1,6 @@
 -- What a command line wishes.
-use Rattle.std.specs.Prelude.{◌≤◌, ℕ, Bool, ◌&&◌, ◌||◌, nat_le, if◌then◌else◌, List, [], ◌∷◌, length, filter_map, Option, Some, None}
+use Rattle.std.specs.Prelude.{◌≤◌, ℕ, Bool, false, ◌&&◌, ◌||◌, nat_le, if◌then◌else◌, List, [], ◌∷◌, length, filter_map, codes, Option, Some, None}
+use Rattle.std.specs.Str.{bytes_eq}
 use Rattle.command_line.specs.declared.setting.Setting.{Setting}
 use Rattle.command_line.specs.declared.setting.Setting.TheVariants.{Order, Cache, Json, Gen}
 use Rattle.command_line.specs.declared.wish.Form.{Form}
@@ -64,9 +65,14 @@ abbrev pub wish_in : Option (List Setting) → Wish
 wish_in (Some settings) = wish_at (filter_map order_at settings) (filter_map capacity_at settings) (filter_map form_at settings) (filter_map count_at settings)
 wish_in None = wishes.Refused
 
--- the wish of the words, from left to right
+-- the words are the one word `--cbh`
+abbrev pub asks_product : List (List ℕ) → Bool
+asks_product (word ∷ []) = bytes_eq word (codes "--cbh")
+asks_product _ = false
+
+-- the wish of the words: `--cbh` stands alone, and options are read from left to right
 abbrev pub wish_of : List (List ℕ) → Wish
-wish_of words = wish_in (settings_in words)
+wish_of words = if asks_product words then wishes.Cbh else wish_in (settings_in words)
 
 -- a count of generated commands is from 1 to 10000
 abbrev pub IsCount : ℕ → Type 0

@@ -26,11 +26,12 @@ fn text_of(alloc: Global, wish: &Wish) -> Result<String, AllocError> {
             "threads {} {form:?}",
             capacity.get()
         ),
+        Wish::Cbh => String::from_str(alloc, "cbh"),
     }
 }
 
 /// Command lines that are refused, their words cut at each space.
-const REFUSED: [&str; 47] = [
+const REFUSED: [&str; 59] = [
     "",
     "x",
     "-",
@@ -78,6 +79,18 @@ const REFUSED: [&str; 47] = [
     "--json --gen 8",
     "--gen 8 --order none",
     "--order=1 --gen=8",
+    "--cbh --json",
+    "--json --cbh",
+    "--cbh --cache 5",
+    "--cbh --order 1",
+    "--order 1 --cbh",
+    "--cbh --gen 8",
+    "--gen 8 --cbh",
+    "--cbh --cbh",
+    "--cbh=",
+    "--cbh=1",
+    "--cache --cbh",
+    "--cbh ",
 ];
 
 #[test]
@@ -94,6 +107,7 @@ fn accepted_words(rt: HostRuntime) -> Result<(), Fail> {
     let wish = read_words(rt.alloc(), &[])?;
     assert_eq!(rt; text_of(rt.alloc(), &wish)?.as_str(), "threads 4096 Text");
     for (line, want) in [
+        ("--cbh", "cbh"),
         ("--json", "threads 4096 Json"),
         ("--cache 1", "threads 1 Text"),
         ("--cache=16384", "threads 16384 Text"),

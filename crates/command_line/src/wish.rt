@@ -64,4 +64,6 @@ pub enum Wish {
         capacity: Capacity,
         form: Form,
     },
+    /// The product of the exponentials of the elements that are read.
+    Cbh,
 }

@@ -1,23 +1,25 @@
 -- What a call of the program does to a source and a sink.
-use Rattle.std.specs.Prelude.{◌≡◌, ◌⊎◌, ◌+◌, ◌<◌, ℕ, List, length, drop, Option, Some, None}
+use Rattle.std.specs.Prelude.{◌≡◌, ◌⊎◌, ◌+◌, ◌<◌, ℕ, true, List, length, drop, Option, Some, None}
 use Rattle.std.specs.Io.KnownBytes.{Appends, IsAtEnd, Keeps}
 use Rattle.rough_io.specs.Counts.{Rose}
 use Rattle.rough_io.specs.Transfers.{AddsPrefix, TakesAtMost}
 use Rattle.command_line.specs.declared.wish.Wish.{Wish}
-use Rattle.command_line.specs.declared.wish.Wish.TheVariants.{Refused}
+use Rattle.command_line.specs.declared.wish.Wish.TheVariants.{Refused, Cbh}
 use Rattle.script_reader.specs.Script.{parse, most_bytes}
+use Rattle.cbh_calc.specs.Elements.{moves_in}
 use Rattle.session.specs.Logarithms.{LogarithmsExpand}
 use Rattle.session.specs.Versions.{VersionsNeverFall}
 use Rattle.rough_main.specs.declared.status.Status.TheVariants as statuses
 use Rattle.rough_main.specs.Statuses.{code_of}
-use Rattle.rough_main.specs.Due.{DueReply, due_reply, unread_reply, IsAnswer}
+use Rattle.rough_main.specs.Elements.{ProductExpands}
+use Rattle.rough_main.specs.Due.{DueReply, due_reply, unread_reply, reads_script, IsAnswer}
 
 -- the bytes that a source has left or that a sink was given, where they are told, and the count of faults
 pub record Port : Type 0 where
   pub told : Option (List ℕ)
   pub faults : ℕ
 
--- the statuses where the source failed, where the sink failed, and where memory was wanting
+-- reading failed
 abbrev pub read_failed : ℕ
 read_failed = code_of statuses.ReadFailed
 
@@ -35,10 +37,12 @@ pub record IsCall (wish : Wish) (order : List ℕ) (status : ℕ) (source taken 
   pub statuses : IsAnswer status ⊎ (status ≡ read_failed) ⊎ (status ≡ write_failed) ⊎ (status ≡ no_memory)
   -- from the bytes that the source had left to the bytes that the sink was given
   pub answered : IsAnswer status → (bytes : List ℕ) → source.told ≡ Some bytes → (status ≡ (due_reply wish bytes order).status) × Appends sink.told given.told (due_reply wish bytes order).text
-  -- the Hall coordinates in that text, expanded by brackets, are exactly the logarithms
-  pub logarithms : status ≡ 0 → unread_reply wish ≡ None → (bytes : List ℕ) → source.told ≡ Some bytes → LogarithmsExpand (parse bytes)
+  -- the Hall coordinates in the answers to a script, expanded by brackets, are exactly the logarithms
+  pub logarithms : status ≡ 0 → reads_script wish ≡ true → (bytes : List ℕ) → source.told ≡ Some bytes → LogarithmsExpand (parse bytes)
   -- the versions of its answers never fall, those of queries that name one left out
-  pub versions : status ≡ 0 → unread_reply wish ≡ None → (bytes : List ℕ) → source.told ≡ Some bytes → VersionsNeverFall (parse bytes)
+  pub versions : status ≡ 0 → reads_script wish ≡ true → (bytes : List ℕ) → source.told ≡ Some bytes → VersionsNeverFall (parse bytes)
+  -- those of a list of elements are exactly the logarithm of the product of the exponentials in the list's order
+  pub product : status ≡ 0 → wish ≡ Cbh → (bytes : List ℕ) → source.told ≡ Some bytes → ProductExpands (moves_in bytes)
   pub faultless : IsAnswer status → (taken.faults ≡ source.faults) × (given.faults ≡ sink.faults)
   -- without a fault the due reply is written, or memory is wanting
   pub complete : ¬ (Rose source.faults taken.faults) → ¬ (Rose sink.faults given.faults) → (bytes : List ℕ) → source.told ≡ Some bytes → (status ≡ (due_reply wish bytes order).status) ⊎ (status ≡ no_memory)

@@ -1,5 +1,5 @@
--- What a run is due: a status and a text, from what the command line wishes and the bytes of the script.
-use Rattle.std.specs.Prelude.{◌≡◌, ◌⊎◌, ℕ, Bool, true, false, List, [], ◌++◌, codes, Option, Some, None, unwrap_or, Result, Ok, Err}
+-- What a run is due: a status and a text, from what the command line wishes and the bytes of the source.
+use Rattle.std.specs.Prelude.{◌≡◌, ◌⊎◌, ℕ, Bool, true, false, List, [], ◌++◌, codes, Option, Some, None, Result, Ok, Err}
 use Rattle.std.specs.Fmt.{decimal}
 use Rattle.definitions.specs.Words.{Extent}
 use Rattle.command_line.specs.declared.wish.Form.{Form}
@@ -11,10 +11,12 @@ use Rattle.script_reader.specs.declared.fault.Reason.TheVariants.{Byte, Keyword,
 use Rattle.script_reader.specs.declared.fault.ScriptFault.{ScriptFault}
 use Rattle.script_reader.specs.declared.fault.ScriptFault.TheVariants.{Size, Line, Memory}
 use Rattle.script_reader.specs.Script.{ScriptValue, parse}
+use Rattle.cbh_calc.specs.Elements.{Elements, moves_in}
 use Rattle.session.specs.Play.{DueOutcome, due_outcome, illegal_place, round_order}
 use Rattle.answers.specs.Text.{outcome_text}
 use Rattle.answers.specs.Json.{json_text}
 use Rattle.answers.specs.Generator.{generated, summary_text}
+use Rattle.rough_main.specs.Elements.{list_text}
 
 -- what is due: the status, and the bytes that are written
 pub record DueReply : Type 0 where
@@ -73,10 +75,19 @@ unless_illegal (Some place) reply = record { status = 3; text = place_text place
 abbrev pub ordered : Form → ℕ → ScriptValue → List ℕ → DueReply
 ordered form capacity script order = unless_illegal (illegal_place capacity script order) (answered form capacity script order)
 
+-- why bytes are refused
+abbrev pub fault_reply : ScriptFault → DueReply
+fault_reply fault = record { status = 3; text = fault_text fault }
+
 -- the answers of an accepted script whose sessions take their steps in this order, or why it is refused
 abbrev pub script_reply : Form → ℕ → List ℕ → Result ScriptValue ScriptFault → DueReply
 script_reply form capacity order (Ok script) = ordered form capacity script order
-script_reply form capacity order (Err fault) = record { status = 3; text = fault_text fault }
+script_reply form capacity order (Err fault) = fault_reply fault
+
+-- the logarithm of the product of the exponentials of an accepted list of elements, or why it is refused
+abbrev pub elements_reply : Result Elements ScriptFault → DueReply
+elements_reply (Ok list) = record { status = 0; text = list_text list }
+elements_reply (Err fault) = fault_reply fault
 
 -- the summary of the generated script of n commands, whose sessions take one step each in turn
 abbrev pub generated_reply : ℕ → ℕ → DueReply
@@ -90,38 +101,41 @@ IsLegalFor capacity order (Ok script) = illegal_place capacity script order ≡ 
 IsLegalFor capacity order (Err fault) = Unit {0}
 
 -- ---- wishes
+-- the words are refused
+abbrev pub words_reply : DueReply
+words_reply = record { status = 2; text = codes "fault words\n" }
+
+-- what is due to a wish and the bytes of the source, where threads take their steps in this order
+abbrev pub due_reply : Wish → List ℕ → List ℕ → DueReply
+due_reply wishes.Refused bytes order = words_reply
+due_reply (wishes.Gen n capacity) bytes order = generated_reply n capacity
+due_reply wishes.Cbh bytes order = elements_reply (moves_in bytes)
+due_reply (wishes.Given given capacity form) bytes order = script_reply form capacity given (parse bytes)
+due_reply (wishes.Threads capacity form) bytes order = script_reply form capacity order (parse bytes)
+
 -- the reply to a wish for which nothing is read: the words are refused, or the script is generated
 abbrev pub unread_reply : Wish → Option DueReply
-unread_reply wishes.Refused = Some (record { status = 2; text = codes "fault words\n" })
+unread_reply wishes.Refused = Some words_reply
 unread_reply (wishes.Gen n capacity) = Some (generated_reply n capacity)
 unread_reply _ = None
 
--- how answers are written
-abbrev pub form_of : Wish → Form
-form_of (wishes.Threads capacity form) = form
-form_of (wishes.Given order capacity form) = form
-form_of _ = forms.Text
+-- what is read is a script
+abbrev pub reads_script : Wish → Bool
+reads_script (wishes.Threads capacity form) = true
+reads_script (wishes.Given order capacity form) = true
+reads_script _ = false
 
 -- how many nodes the cache keeps at most
 abbrev pub capacity_of : Wish → ℕ
 capacity_of (wishes.Threads capacity form) = capacity
 capacity_of (wishes.Given order capacity form) = capacity
 capacity_of (wishes.Gen n capacity) = capacity
-capacity_of wishes.Refused = 4096
-
--- the order that is given, or else the one that threads take
-abbrev pub order_in : Wish → List ℕ → List ℕ
-order_in (wishes.Given given capacity form) order = given
-order_in _ order = order
+capacity_of _ = 4096
 
 -- the sessions run on threads
 abbrev pub is_threaded : Wish → Bool
 is_threaded (wishes.Threads capacity form) = true
 is_threaded _ = false
-
--- what is due to a wish and the bytes of the source, where threads take their steps in this order
-abbrev pub due_reply : Wish → List ℕ → List ℕ → DueReply
-due_reply wish bytes order = unwrap_or (unread_reply wish) (script_reply (form_of wish) (capacity_of wish) (order_in wish order) (parse bytes))
 
 -- a status and a text are the ones that are due
 abbrev pub IsReply : ℕ → List ℕ → DueReply → Type 0

@@ -1,4 +1,5 @@
 pub mod Statuses
+pub mod Elements
 pub mod Due
 pub mod Calls
 pub mod Made

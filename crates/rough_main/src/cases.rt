@@ -542,6 +542,48 @@ versions 2\n",
     ),
 ];
 
+/// Lists of elements, each with its status and what is written.
+pub(crate) const PRODUCTS: [(&str, u8, &str); 8] = [
+    (LOOP, 0, LOOP_PRODUCT),
+    (
+        "shape 2 4\n1 0\n0 1\n",
+        0,
+        "shape 2 4\n\
+cbh 2\n\
+level 1 over 1 1=1 2=1\n\
+level 2 over 8 [1,2]=4\n\
+level 3 over 108 [1,[1,2]]=9 [2,[1,2]]=-9\n\
+level 4 over 1152 [2,[1,[1,2]]]=-48\n",
+    ),
+    (
+        "shape 2 2\n3 0 5\n",
+        0,
+        "shape 2 2\ncbh 1\nlevel 1 over 1 1=3\nlevel 2 over 8 [1,2]=40\n",
+    ),
+    (
+        "shape 2 2\n1 2 3\n-1 -2 -3\n",
+        0,
+        "shape 2 2\ncbh 2\nlevel 1 over 1\nlevel 2 over 8\n",
+    ),
+    (
+        "shape 2 2\n",
+        0,
+        "shape 2 2\ncbh 0\nlevel 1 over 1\nlevel 2 over 8\n",
+    ),
+    ("shape 1 8\n6185\n", 0, "shape 1 8\ncbh 1\noverflow 6185\n"),
+    ("shape 2 2\n1\n", 3, "fault line 2 fields\n"),
+    (SCRIPT, 3, "fault line 2 number\n"),
+];
+
+/// A loop of two moves.
+pub(crate) const LOOP: &str = "# a loop of two\nshape 2 3\n1 0\n0 1\n-1 0\n0 -1\n";
+
+pub(crate) const LOOP_PRODUCT: &str = "shape 2 3\n\
+cbh 4\n\
+level 1 over 1\n\
+level 2 over 8 [1,2]=8\n\
+level 3 over 108 [1,[1,2]]=54 [2,[1,2]]=54\n";
+
 pub(crate) const SCRIPT: &str = "shape 2 2\nsession 1\nappend a 0 2 3\nsig 0 1 0\n";
 
 pub(crate) const ANSWERS: &str = "shape 2 2\n\

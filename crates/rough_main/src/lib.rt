@@ -3,10 +3,15 @@
 
 #[cfg(test)]
 mod cases;
+mod elements;
 mod fault_text;
 #[cfg(test)]
 mod limit_tests;
 mod reply;
+#[cfg(test)]
+mod size_cases;
+#[cfg(test)]
+mod size_tests;
 pub mod status;
 #[cfg(test)]
 mod tests;

@@ -5,7 +5,7 @@ use std::alloc::Global;
 use std::test::Fail;
 
 /// A text that is followed by another one so many times.
-fn followed(alloc: Global, head: &str, part: &str, times: u32) -> Result<String, Fail> {
+pub(crate) fn followed(alloc: Global, head: &str, part: &str, times: u32) -> Result<String, Fail> {
     let mut text = String::from_str(alloc, head)?;
     for _time in 0..times {
         text.push_str(part)?;

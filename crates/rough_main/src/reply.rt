@@ -1,21 +1,19 @@
 //! The reply that is due, made whole before anything is written.
-ghost use Rattle.std.specs.Prelude.{◌≡◌, ◌<◌, ◌≤◌, ℕ, List, codes, Result, IfOk, OnOk};
-ghost use Rattle.script_reader.specs.declared.fault.ScriptFault.{ScriptFault as TheFault};
-ghost use Rattle.script_reader.specs.Script.{ScriptValue, parse};
+ghost use Rattle.std.specs.Prelude.{◌≡◌, ◌<◌, ◌≤◌, ℕ, List, codes, IfOk, OnOk};
+ghost use Rattle.script_reader.specs.Script.{parse};
 ghost use Rattle.session.specs.Play.{DueOutcome};
 ghost use Rattle.session.specs.Answers.{IsOutcome, AllHaveMembers};
 ghost use Rattle.session.specs.Logarithms.{LogarithmsExpand};
 ghost use Rattle.session.specs.Versions.{VersionsNeverFall};
 ghost use Rattle.rough_main.specs.Statuses.{code_of};
 ghost use Rattle.rough_main.specs.Due.{written, ordered, script_reply, generated_reply, IsReply, IsLegalFor};
-ghost use Rattle.rough_main.specs.Made.{IsParsed};
 
-use crate::fault_text::{line_text, place_text};
+use crate::fault_text::{place_text, refusal};
 use crate::status::Status;
 use answers::{gen_script, json_of, summary_of, text_of};
 use command_line::Form;
 use hall_set::HallSet;
-use script_reader::{Script, ScriptFault, read_script};
+use script_reader::{Script, read_script};
 use session::laws::{logarithms_expand, versions_never_fall};
 use session::{Gate, Outcome, ReplayFault, replay, replay_round, run_all};
 use std::alloc::Global;
@@ -29,35 +27,6 @@ use words::{Capacity, Free, Memory, Steps};
 pub struct Reply {
     pub status: Status,
     pub text: Vec<u8>,
-}
-
-/// The script that bytes spell, or the reply that says why it is none.
-#[derive(Drop)]
-pub enum Parsed {
-    Script(Script),
-    Refused(Reply),
-}
-
-/// The script that bytes spell, or the reply that names its fault.
-pub fn script_in(alloc: Global, bytes: &[u8]) -> Result<Parsed, Memory>
-    ensures parsed { IfOk result (IsParsed (parse bytes.now)) }
-    ensures logarithms { OnOk result (LogarithmsExpand (parse bytes.now)) }
-    ensures versions { OnOk result (VersionsNeverFall (parse bytes.now)) }
-{
-    let text = match read_script(alloc, bytes) {
-        Ok(script) => {
-            logarithms_expand(&script);
-            versions_never_fall(&script);
-            return Ok(Parsed::Script(script));
-        }
-        Err(ScriptFault::Size) => Vec::from_slice(alloc, b"fault size\n")?,
-        Err(ScriptFault::Line(line, reason)) => line_text(alloc, line, reason)?,
-        Err(ScriptFault::Memory) => return Err(Memory),
-    };
-    Ok(Parsed::Refused(Reply {
-        status: Status::ScriptRefused,
-        text,
-    }))
 }
 
 /// The reply with an outcome in this form.
@@ -109,23 +78,22 @@ fn reply_counted<L: Ledger>(
 /// The reply to bytes that spell a script whose sessions take their steps in this order.
 pub fn reply_in_order(
     alloc: Global,
-    parsed: Parsed,
+    bytes: &[u8],
     form: Form,
     capacity: Capacity,
     order: &[u32],
 ) -> Result<Reply, Memory>
-    ensures { (spelled : Result ScriptValue TheFault) → IsParsed spelled parsed → IfOk result (λ reply. IsReply (code_of reply.status) reply.text.items (script_reply form capacity order.now spelled)) }
+    ensures reply { IfOk result (λ reply. IsReply (code_of reply.status) reply.text.items (script_reply form capacity order.now (parse bytes.now))) }
+    ensures logarithms { OnOk result (LogarithmsExpand (parse bytes.now)) }
+    ensures versions { OnOk result (VersionsNeverFall (parse bytes.now)) }
 {
-    match parsed {
-        Parsed::Script(script) => reply_counted::<Free>(
-            alloc,
-            &script,
-            form,
-            capacity,
-            order,
-            Blank::new(1),
-        ),
-        Parsed::Refused(reply) => Ok(reply),
+    match read_script(alloc, bytes) {
+        Ok(script) => {
+            logarithms_expand(&script);
+            versions_never_fall(&script);
+            reply_counted::<Free>(alloc, &script, form, capacity, order, Blank::new(1))
+        }
+        Err(fault) => refusal(alloc, fault),
     }
 }
 
@@ -133,20 +101,23 @@ pub fn reply_in_order(
 pub fn reply_on_threads<R: Threads + Wait + Sync, G: Gate>(
     rt: &R,
     alloc: Global,
-    parsed: Parsed,
+    bytes: &[u8],
     form: Form,
     capacity: Capacity,
     gate: &G,
 ) -> Result<Reply, Memory>
-    ensures { (spelled : Result ScriptValue TheFault) → IsParsed spelled parsed →
-        IfOk result (λ reply. (order : List ℕ) × IsLegalFor capacity order spelled × IsReply (code_of reply.status) reply.text.items (script_reply form capacity order spelled)) }
+    ensures reply { IfOk result (λ reply. (order : List ℕ) × IsLegalFor capacity order (parse bytes.now) × IsReply (code_of reply.status) reply.text.items (script_reply form capacity order (parse bytes.now))) }
+    ensures logarithms { OnOk result (LogarithmsExpand (parse bytes.now)) }
+    ensures versions { OnOk result (VersionsNeverFall (parse bytes.now)) }
 {
-    match parsed {
-        Parsed::Script(script) => {
+    match read_script(alloc, bytes) {
+        Ok(script) => {
+            logarithms_expand(&script);
+            versions_never_fall(&script);
             let outcome = run_all(rt, alloc, &script, capacity, gate)?;
             reply_with(alloc, &script, form, &outcome)
         }
-        Parsed::Refused(reply) => Ok(reply),
+        Err(fault) => refusal(alloc, fault),
     }
 }
 

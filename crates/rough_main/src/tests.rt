@@ -1,4 +1,7 @@
-use crate::cases::{ANSWERED, ANSWERS, JSON_ANSWERS, LIE_ROWS, LOGARITHMS, ORDERED, SCRIPT};
+use crate::cases::{
+    ANSWERED, ANSWERS, JSON_ANSWERS, LIE_ROWS, LOGARITHMS, LOOP, LOOP_PRODUCT, ORDERED, PRODUCTS,
+    SCRIPT,
+};
 use crate::{Through, rough, rough_plain};
 use rough_io::{MemorySink, MemorySource};
 use std::alloc::Global;
@@ -70,6 +73,31 @@ fn lie_rows_are_answered(rt: HostRuntime) -> Result<(), Fail> {
 }
 
 #[test]
+fn products_are_answered(rt: HostRuntime) -> Result<(), Fail> {
+    for (elements, status, text) in PRODUCTS {
+        let run = run_over_memory(&rt, rt.alloc(), &["--cbh"], elements, &[], &[])?;
+        assert_eq!(rt; run.status, status, "of {elements}");
+        assert_eq!(rt; run.written.as_str(), text, "of {elements}");
+    }
+    Ok(())
+}
+
+/// Two rows, and the partition of a unit of time into halves.
+const PARTITION: &str =
+    "shape 2 2\nsession 1\nappend a 0 1 0\nappend b 1/2 0 1\nparts 1 2 0 1/2 1\n";
+
+const PARTITION_ANSWERS: &str =
+    "shape 2 2\nsession 1\n1 done 1\n2 done 2\n3 log version 2 hits 0 misses 1 exps 1\nlevel 1 over 1 1=1\nlevel 2 over 8\n4 log version 2 hits 0 misses 1 exps 1\nlevel 1 over 1 2=1\nlevel 2 over 8\n5 sig version 2 hits 0 misses 1 exps 2\nlevel 1 over 1 (1)=1 (2)=1\nlevel 2 over 2 (1,1)=1 (1,2)=2 (2,2)=1\norder 1,1,1,1,1,1,1,1\nversions 2\n";
+
+#[test]
+fn partitions_are_answered(rt: HostRuntime) -> Result<(), Fail> {
+    let run = run_over_memory(&rt, rt.alloc(), &[], PARTITION, &[], &[])?;
+    assert_eq!(rt; run.status, 0);
+    assert_eq!(rt; run.written.as_str(), PARTITION_ANSWERS);
+    Ok(())
+}
+
+#[test]
 fn lie_rows_are_refused(rt: HostRuntime) -> Result<(), Fail> {
     for (script, refusal) in [
         (
@@ -128,26 +156,28 @@ fn from_to(alloc: Global, first: u64, last: u64) -> Result<Vec<u64>, Fail> {
     Ok(places)
 }
 
-/// The words of runs with as many reads and writes each: as text on threads and in an order, and as JSON.
-const FORMS: [(&[&str], &str); 3] = [
-    (&[], ANSWERS),
-    (&["--order", "1,1,1"], ANSWERS),
-    (&["--json"], JSON_ANSWERS),
+/// The words of runs, with what is read in as many reads each and what is written: as text on threads and in an order, as JSON, and of a
+/// list of elements.
+const FORMS: [(&[&str], &str, &str); 4] = [
+    (&[], SCRIPT, ANSWERS),
+    (&["--order", "1,1,1"], SCRIPT, ANSWERS),
+    (&["--json"], SCRIPT, JSON_ANSWERS),
+    (&["--cbh"], LOOP, LOOP_PRODUCT),
 ];
 
 #[test]
 fn each_read_may_fail(rt: HostRuntime) -> Result<(), Fail> {
     let alloc = rt.alloc();
-    for (words, answers) in FORMS {
-        // Five reads of nine bytes, and one that finds the end. After one that failed none is made.
+    for (words, script, answers) in FORMS {
+        // Five reads of up to nine bytes, and one that finds the end. After one that failed none is made.
         for read in 1..=6u64 {
             let reads = from_to(alloc, read, 9)?;
-            let run = run_over_memory(&rt, alloc, words, SCRIPT, &reads, &[])?;
+            let run = run_over_memory(&rt, alloc, words, script, &reads, &[])?;
             assert_eq!(rt; run.status, 4, "at read {read} with {words:?}");
             assert_eq!(rt; run.written.as_str(), "");
             assert_eq!(rt; run.faults, (1, 0), "at read {read} with {words:?}");
         }
-        let run = run_over_memory(&rt, alloc, words, SCRIPT, &[7], &[])?;
+        let run = run_over_memory(&rt, alloc, words, script, &[7], &[])?;
         assert_eq!(rt; run.status, 0, "with {words:?}");
         assert_eq!(rt; run.written.as_str(), answers, "with {words:?}");
     }
@@ -157,18 +187,18 @@ fn each_read_may_fail(rt: HostRuntime) -> Result<(), Fail> {
 #[test]
 fn each_write_may_fail(rt: HostRuntime) -> Result<(), Fail> {
     let alloc = rt.alloc();
-    for (words, answers) in FORMS {
+    for (words, script, answers) in FORMS {
         // Writes of seven bytes. After one that failed none is made.
         let writes = answers.len().div_ceil(7) as u64;
         for write in 1..=writes {
             let fails = from_to(alloc, write, writes)?;
-            let run = run_over_memory(&rt, alloc, words, SCRIPT, &[], &fails)?;
+            let run = run_over_memory(&rt, alloc, words, script, &[], &fails)?;
             assert_eq!(rt; run.status, 5, "at write {write} with {words:?}");
             assert!(rt; answers.starts_with(run.written.as_str()));
             assert_eq!(rt; run.written.len() as u64, (write - 1).saturating_mul(7));
             assert_eq!(rt; run.faults, (0, 1), "at write {write} with {words:?}");
         }
-        let run = run_over_memory(&rt, alloc, words, SCRIPT, &[], &[writes + 1])?;
+        let run = run_over_memory(&rt, alloc, words, script, &[], &[writes + 1])?;
         assert_eq!(rt; run.status, 0, "with {words:?}");
     }
     Ok(())
@@ -186,6 +216,14 @@ fn words_are_answered_unread(rt: HostRuntime) -> Result<(), Fail> {
         (&["--order=1,1,1", "--order", "1"], "fault words\n"),
         (&["--order", "-1"], "fault words\n"),
         (&["--order"], "fault words\n"),
+        (&["--cbh", "--json"], "fault words\n"),
+        (&["--cbh", "--cache", "5"], "fault words\n"),
+        (&["--cbh", "--order", "1"], "fault words\n"),
+        (&["--cbh", "--gen", "8"], "fault words\n"),
+        (&["--cbh", "--cbh"], "fault words\n"),
+        (&["--cbh="], "fault words\n"),
+        (&["--cbh=1"], "fault words\n"),
+        (&["--cache", "--cbh"], "fault words\n"),
     ] {
         // A read would fail.
         let run = run_over_memory(&rt, rt.alloc(), words, SCRIPT, &[1], &[])?;
@@ -290,15 +328,18 @@ append b 0 1\n";
 
 #[test]
 fn threads_are_left_to_the_caller(rt: HostRuntime) -> Result<(), Fail> {
-    let bytes = Vec::from_slice(rt.alloc(), SCRIPT.as_bytes())?;
-    let mut source = MemorySource::new(bytes, 9, vec![in rt.alloc(); 1u64]?);
-    let mut sink = MemorySink::new(rt.alloc(), 4096, 7, vec![in rt.alloc(); 1u64]?)?;
-    let words = vec![in rt.alloc(); String::from_str(rt.alloc(), "--cache=5")?]?;
-    assert_eq!(rt;
-        rough_plain(rt.alloc(), &words, &mut source, &mut sink),
-        None
-    );
-    assert_eq!(rt; (source.faults(), sink.faults()), (0, 0));
+    for (word, script, status) in [("--cache=5", SCRIPT, None), ("--cbh", LOOP, Some(0))] {
+        let bytes = Vec::from_slice(rt.alloc(), script.as_bytes())?;
+        let mut source = MemorySource::new(bytes, 9, Vec::new(rt.alloc()));
+        let mut sink = MemorySink::new(rt.alloc(), 4096, 7, Vec::new(rt.alloc()))?;
+        let words = vec![in rt.alloc(); String::from_str(rt.alloc(), word)?]?;
+        assert_eq!(rt;
+            rough_plain(rt.alloc(), &words, &mut source, &mut sink),
+            status,
+            "with {word}"
+        );
+        assert_eq!(rt; (source.faults(), sink.faults()), (0, 0));
+    }
     Ok(())
 }
 

@@ -57,7 +57,7 @@ fn write_session(alloc: Global, text: &mut String, session: u64) -> Result<(), F
 }
 
 /// The order that an answer prints.
-fn printed_order(answers: &str) -> Option<&str> {
+pub(crate) fn printed_order(answers: &str) -> Option<&str> {
     answers.lines().find_map(|line| line.strip_prefix("order "))
 }
 

@@ -1,21 +1,16 @@
 //! The top call.
-ghost use Rattle.std.specs.Prelude.{◌≡◌, ◌⊎◌, ◌<◌, ◌≤◌, ◌+◌, ℕ, List, Some, None, Ok, true, false, map, drop, length, string_bytes, Result, IfOk, OnOk, IfSome, IfErr, IsErrOf, IsNone};
-ghost use Rattle.std.specs.Io.KnownBytes.{IsAtEnd};
+ghost use Rattle.std.specs.Prelude.{◌≡◌, ◌⊎◌, ◌+◌, ℕ, List, Some, true, false, map, string_bytes, IfOk, OnOk, OnErr, IfSome, IfErr, IsErrOf, IsNone};
 ghost use Rattle.rough_io.specs.Counts.{Rose};
 ghost use Rattle.rough_io.specs.Transfers.{TakesAtMost};
 ghost use Rattle.command_line.specs.Wishes.{wish_of, IsInRange};
 ghost use Rattle.command_line.specs.declared.wish.Wish.{Wish as TheWish};
-ghost use Rattle.script_reader.specs.declared.fault.ScriptFault.{ScriptFault as TheFault};
-ghost use Rattle.script_reader.specs.Script.{ScriptValue, most_bytes, parse};
-ghost use Rattle.session.specs.Logarithms.{LogarithmsExpand};
-ghost use Rattle.session.specs.Versions.{VersionsNeverFall};
+ghost use Rattle.script_reader.specs.Script.{most_bytes, parse};
 ghost use Rattle.rough_main.specs.Due.{capacity_of, is_threaded, IsAnswer, IsLegalFor};
 ghost use Rattle.rough_main.specs.Calls.{Port, IsCall, write_failed, no_memory};
-ghost use Rattle.rough_main.specs.Made.{IsMade, IsParsed, IsSpelled};
+ghost use Rattle.rough_main.specs.Made.{IsReceived, IsMade};
 
-use crate::reply::{
-    Parsed, Reply, reply_generated, reply_in_order, reply_on_threads, reply_to_refused, script_in,
-};
+use crate::elements::reply_to_elements;
+use crate::reply::{Reply, reply_generated, reply_in_order, reply_on_threads, reply_to_refused};
 use crate::status::Status;
 use command_line::{Wish, read_words};
 use rough_io::{ReceiveFault, Sink, Source, receive, send};
@@ -24,30 +19,22 @@ use std::alloc::Global;
 use std::sync::Wait;
 use std::thread::Threads;
 
-/// The most bytes of a script.
+/// The most bytes of a script, or of a list of elements.
 const MOST_BYTES: usize = 4_194_304;
 
-/// What the bytes of a source spell.
-fn read_source<S: Source>(alloc: Global, source: &mut S) -> Result<Parsed, ReceiveFault>
-    ensures spelled { IfOk result (λ p. (spelled : Result ScriptValue TheFault) × IsParsed spelled p) }
-    ensures parsed { (bytes : List ℕ) → S.left source.old ≡ Some bytes → IfOk result (IsParsed (parse bytes)) }
-    ensures logarithms { (bytes : List ℕ) → S.left source.old ≡ Some bytes → OnOk result (LogarithmsExpand (parse bytes)) }
-    ensures versions { (bytes : List ℕ) → S.left source.old ≡ Some bytes → OnOk result (VersionsNeverFall (parse bytes)) }
-    ensures whole { IfOk result (λ p. IsSpelled p → IsAtEnd (S.left source.new)) }
-    ensures size { (bytes : List ℕ) → S.left source.old ≡ Some bytes → most_bytes < length bytes → OnOk result (S.left source.new ≡ Some (drop (most_bytes + 1) bytes)) }
-    ensures taken { TakesAtMost (most_bytes + 1) (S.left source.old) (S.left source.new) }
+/// The bytes of a source, up to one more than a script or a list of elements may have.
+fn read_source<S: Source>(alloc: Global, source: &mut S) -> Result<Vec<u8>, ReceiveFault>
+    ensures received { IfOk result (λ bytes. IsReceived bytes.items (record { told = S.left source.old; faults = S.faults source.old }) (record { told = S.left source.new; faults = S.faults source.new })) }
+    ensures taken { OnErr result (TakesAtMost (most_bytes + 1) (S.left source.old) (S.left source.new)) }
     ensures failed { IsErrOf result ReceiveFault.Failed → Rose (S.faults source.old) (S.faults source.new) }
     ensures memory { IsErrOf result ReceiveFault.Memory → S.faults source.new ≡ S.faults source.old }
-    ensures ok { OnOk result (S.faults source.new ≡ S.faults source.old) }
 {
     let bytes = receive(alloc, source, MOST_BYTES)?;
-    match script_in(alloc, &bytes) {
-        Ok(parsed) => Ok(parsed),
-        Err(_memory) => Err(ReceiveFault::Memory),
-    }
+    let _slice = bytes.as_slice();
+    Ok(bytes)
 }
 
-/// The reply to a wish that isn't for threads. The source isn't read where the wish is refused.
+/// The reply to a wish that isn't for threads. The source isn't read where the wish is refused or for a generated script.
 fn reply_plain<S: Source>(alloc: Global, wish: &Wish, source: &mut S) -> Result<Reply, ReceiveFault>
     requires range { IsInRange wish.now }
     requires plain { is_threaded wish.now ≡ false }
@@ -61,8 +48,12 @@ fn reply_plain<S: Source>(alloc: Global, wish: &Wish, source: &mut S) -> Result<
             capacity,
             form,
         } => {
-            let parsed = read_source(alloc, source)?;
-            reply_in_order(alloc, parsed, *form, *capacity, order.list())
+            let bytes = read_source(alloc, source)?;
+            reply_in_order(alloc, &bytes, *form, *capacity, order.list())
+        }
+        Wish::Cbh => {
+            let bytes = read_source(alloc, source)?;
+            reply_to_elements(alloc, &bytes)
         }
         Wish::Threads { .. } => unreachable!(),
     };
@@ -89,8 +80,8 @@ fn reply_threaded<R: Threads + Wait + Sync, S: Source, G: Gate>(
     let Wish::Threads { capacity, form } = wish else {
         unreachable!();
     };
-    let parsed = read_source(alloc, source)?;
-    match reply_on_threads(rt, alloc, parsed, *form, *capacity, gate) {
+    let bytes = read_source(alloc, source)?;
+    match reply_on_threads(rt, alloc, &bytes, *form, *capacity, gate) {
         Ok(reply) => Ok(reply),
         Err(_memory) => Err(ReceiveFault::Memory),
     }
@@ -120,8 +111,8 @@ fn write_reply<O: Sink>(made: Result<Reply, ReceiveFault>, sink: &mut O) -> u8
     }
 }
 
-/// Reads a script, runs it on this thread in the order that the words give, and writes its answers. The words are those of the command line,
-/// without the program's name. Where they ask for threads, nothing is read or written, and the answer is `None`; else it is the status that
+/// Reads a script, runs it on this thread in the order that the words give, and writes its answers; or reads a list of elements, and writes
+/// the logarithm of the product of their exponentials. The words are those of the command line, without the program's name. Where they ask for threads, nothing is read or written, and the answer is `None`; else it is the status that
 /// `rough` tells. It always returns.
 pub fn rough_plain<S: Source, O: Sink>(
     alloc: Global,
@@ -145,7 +136,7 @@ pub fn rough_plain<S: Source, O: Sink>(
 }
 
 /// Reads a script, runs it and writes its answers. The words are those of the command line, without the program's name. Where they give an
-/// order, the script runs on this thread and in that order, as `rough_plain` says. Else its sessions run on threads, and the call returns
+/// order, the script runs on this thread and in that order, as `rough_plain` says; so it is with the words for elements. Else its sessions run on threads, and the call returns
 /// if they do: what is written is what one thread writes that takes the steps in the printed order, which is legal.
 ///
 /// The gate is called by each session between its looks and their solutions, without the turn. The whole text is made before anything
@@ -153,9 +144,9 @@ pub fn rough_plain<S: Source, O: Sink>(
 ///
 /// | Status | Comes | Written |
 /// |---|---|---|
-/// | 0 | the script was accepted, or is generated | its answers, or the summary |
+/// | 0 | the script or the list of elements was accepted, or the script is generated | its answers, the logarithm, or the summary |
 /// | 2 | exactly where the words are refused | `fault words` |
-/// | 3 | exactly where the script is refused, or else the order that is given | `fault size`, `fault line n reason`, `fault order place p` |
+/// | 3 | exactly where the script or the list is refused, or else the order that is given | `fault size`, `fault line n reason`, `fault order place p` |
 /// | 4 | only where the source's count of faults rose | nothing |
 /// | 5 | only where the sink's count of faults rose | a prefix of the text of status 0, 2 or 3 |
 /// | 6 | want of memory | nothing |
