@@ -9,6 +9,7 @@ WHOLE = [
     "refused.script", "refused.text", "sessions.script", "sessions.text",
     "first.json", "generated.text", "read_json.py", "prices.py", "prices.text",
     "traps.script", "traps.text", "elements.script", "elements.text",
+    "loop.elements", "loop.text",
 ]
 
 
@@ -43,11 +44,21 @@ def main():
         wrong.append("sessions.script in two columns")
     if text != lines_of("sessions.text"):
         wrong.append("sessions.text in two columns")
-    script, text = columns("A row may also be a Lie element. Its entries", "With `--json` the answers")
+    script, text = columns("A row may also be a Lie element. Its entries", "Several logarithms can be asked for")
     if script != lines_of("area.script"):
         wrong.append("area.script")
     if text != lines_of("area.text"):
         wrong.append("area.text")
+    script, text = columns("Several logarithms can be asked for", "With `--json` the answers")
+    if script != lines_of("partition.script"):
+        wrong.append("partition.script")
+    if text != lines_of("partition.text"):
+        wrong.append("partition.text")
+    script, text = columns("With `--cbh` the program is", "`examples/walk.script` is a walk")
+    if script != lines_of("loop.elements"):
+        wrong.append("loop.elements in two columns")
+    if text != lines_of("loop.text"):
+        wrong.append("loop.text in two columns")
     if (FOLDER / "faults.table").read_text() not in PAGES:
         wrong.append("faults.table")
     for name in wrong:

@@ -33,8 +33,9 @@ from .faults import (
     WriteFault,
 )
 from .path import Clock, Path, Rounding
+from .product import cbh
 from .program import Program
-from .script import Handle, Run, Script, Session, floor_time, tick_of
+from .script import Handle, Partition, Run, Script, Session, floor_time, tick_of
 from .stream import LimitError, Query, Row, Stream, room
 from .values import LogSignature, Signature
 
@@ -52,6 +53,7 @@ __all__ = [
     "OrderFault",
     "OutOfMemory",
     "Overflow",
+    "Partition",
     "Path",
     "Program",
     "Query",
@@ -68,6 +70,7 @@ __all__ = [
     "Stream",
     "WordsFault",
     "WriteFault",
+    "cbh",
     "expansion",
     "floor_time",
     "hall_set",

@@ -109,7 +109,8 @@ def _commands(content: list[tuple[int, list[bytes]]], shape: Script) -> Iterator
             session = shape.session()
         else:
             line = b" ".join(words).decode("ascii")
-            yield session.line(line), (number, line)
+            for handle in session.commands(line):
+                yield handle, (number, line)
 
 
 def _opened(name: str) -> TextIO:

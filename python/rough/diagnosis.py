@@ -16,7 +16,7 @@ _TICKS = 65536
 MENDS = {
     "byte": "{field} has a byte that isn't printable ASCII, a space or a tab (an accent, a dash, a byte order mark?): "
     "write plain letters",
-    "keyword": "{field} is none of shape, session, append, correct, remove, sig and log",
+    "keyword": "{field} is none of shape, session, append, correct, remove, sig, log and parts",
     "place": "the first line is `shape W N`, which stands once, and commands stand after `session 1`",
     "fields": "it hasn't the words that are due: {due}",
     "name": "{field} isn't a name: 1 to 32 letters, digits and underscores, the first a letter",
@@ -28,7 +28,7 @@ MENDS = {
     "depth": "the depth is from 1 to 8, and not {field}",
     "words": "the shape has more than 2,000 words: the widths 2, 3, 4, 5 and 6, 7 to 12 go to the depths 8, 6, 5, 4, 3",
     "session": "the sessions are 1, 2, 3 and so on, in this order, at most 16, and not {field}",
-    "interval": "the interval ends before it begins: exchange its ends",
+    "interval": "an interval ends before it begins: exchange its ends; times of `parts` may be equal, and never fall",
     "resolution": "the resolution is from 0 to 16, and not {field}",
     "commands": "a script has at most 65,536 commands: ask in several scripts",
     "load": "commands times words of the shape exceed 8,000,000: have fewer rows, or a lesser depth",
@@ -37,6 +37,7 @@ MENDS = {
 }
 Test = Callable[[str], bool]
 _PLACES = {"keyword": 0, "width": 1, "depth": 2, "session": 1, "resolution": 3}
+_PLACES_IN_PARTS = {**_PLACES, "resolution": 1}
 
 
 def shape_of(lines: Sequence[bytes]) -> tuple[int, int] | None:
@@ -69,21 +70,24 @@ def _due(words: Sequence[str], shape: tuple[int, int] | None) -> str:
         "remove": "remove name",
         "sig": f"sig {query}",
         "log": f"log {query}",
+        "parts": "parts resolution version, and 2 to 65 times",
     }
     return forms.get(words[0] if words else "", "a keyword, and its words")
 
 
 def bad_field(words: Sequence[str], reason: str) -> str | None:
     """The first word of a bad line that has the reason."""
-    if reason in _PLACES:
-        place = _PLACES[reason]
+    keyword = words[0] if words else ""
+    places = _PLACES_IN_PARTS if keyword == "parts" else _PLACES
+    if reason in places:
+        place = places[reason]
         return words[place] if place < len(words) else None
     if reason == "byte":
         return next((word for word in words if not word.isascii() or not word.isprintable() or "\\x" in word), None)
     tests = {"name": (_is_name,), "time": (_is_row_time, _is_end), "number": (_is_plain, _is_version, _is_entry)}.get(
         reason, ()
     )
-    for word, test in zip(words[1:], _fields_of(words[0] if words else "", len(words))):
+    for word, test in zip(words[1:], _fields_of(keyword, len(words))):
         if test is not None and test in tests and not test(word):
             return word
     return None
@@ -100,6 +104,7 @@ def _fields_of(keyword: str, count: int) -> list[Test | None]:
         "remove": [_is_name],
         "sig": query,
         "log": query,
+        "parts": [_is_plain, _is_version, *[_is_end] * count],
     }
     return forms.get(keyword, [])
 

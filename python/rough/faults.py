@@ -137,7 +137,7 @@ def fault_of(status: int, text: str, script: bytes, words: Sequence[str] = ()) -
     return Crash(f"ended by {signal.Signals(-status).name}" if status < 0 else f"status {status}", status, text)
 
 
-def refusal_of(reply: str, rest: str, session: int, command: int) -> Refusal | None:
+def refusal_of(reply: str, rest: str, session: int | None = None, command: int | None = None) -> Refusal | None:
     """The refusal that an answer is, or None where it is a value or an accepted edit."""
     kinds = {"name-taken": NameTaken, "no-row": NoRow, "no-version": NoVersion, "overflow": Overflow}
     if reply in kinds:

@@ -5,8 +5,9 @@ from __future__ import annotations
 from collections.abc import Iterable, Iterator, Mapping, Sequence
 from fractions import Fraction
 from functools import lru_cache
+from itertools import pairwise
 from math import floor, prod
-from typing import Any, NamedTuple
+from typing import Any, Generic, NamedTuple, TypeVar
 
 from .basis import check_shape, entry_counts, letters_of, members, text_of
 from .diagnosis import NAME
@@ -16,6 +17,10 @@ from .values import LogSignature, Scale, Signature, Told
 
 TICKS = 65536  # in a unit of time
 LAST_TICK = TICKS * TICKS
+MOST_PARTS = 64  # of a partition in one line
+
+Log = TypeVar("Log")
+Whole = TypeVar("Whole")
 
 
 class Handle(NamedTuple):
@@ -23,6 +28,15 @@ class Handle(NamedTuple):
 
     session: int
     command: int
+
+
+class Partition(NamedTuple, Generic[Log, Whole]):
+    """What is asked of a partition of an interval: the logarithm over each part, in the order of time, and the
+    signature of the whole; their handles, or their values.
+    """
+
+    logs: list[Log]
+    whole: Whole
 
 
 def exact(x: Any) -> Fraction:
@@ -151,18 +165,39 @@ def query_line(kind: str, start: int, stop: int, resolution: int = 16, at: int |
     return f"{kind} {time_text(start)} {time_text(stop)} {resolution}" + ("" if at is None else f" at {at}")
 
 
+def parts_line(ticks: Sequence[int], resolution: int, at: int) -> str:
+    """The line that asks for the logarithm from each tick up to the next one, and for the signature of the whole."""
+    if not 2 <= len(ticks) <= MOST_PARTS + 1:
+        raise ValueError(f"a line has partitions of 2 to {MOST_PARTS + 1} times, and not {len(ticks)}")
+    for start, stop in pairwise(ticks):
+        check_query("log", start, stop, resolution)
+    return f"parts {resolution} {at} {' '.join(map(time_text, ticks))}"
+
+
+def commands_in(line: str) -> int:
+    """How many commands a line stands for: one, but a line `parts` one for each of its times."""
+    return max(1, len(line.split()) - 3) if line.lstrip().startswith("parts") else 1
+
+
 class Session:
-    """The commands of one session; each call answers the handle that a run is asked by."""
+    """The commands of one session; each call answers the handle that a run is asked by, or those of several."""
 
     def __init__(self, script: Script, number: int) -> None:
         self.script, self.number = script, number
         self.lines: list[str] = []
+        self.count = 0  # of the commands, of which a line may have several
         self.intervals: dict[int, tuple[int, int]] = {}  # ticks, by command
 
     def line(self, text: str) -> Handle:
-        """A command by its line."""
+        """A command by its line, or the first of those that the line stands for."""
+        return self.commands(text)[0]
+
+    def commands(self, text: str) -> list[Handle]:
+        """All commands that a line stands for."""
         self.lines.append(text)
-        return Handle(self.number, len(self.lines))
+        first = self.count + 1
+        self.count += commands_in(text)
+        return [Handle(self.number, command) for command in range(first, self.count + 1)]
 
     def append(self, name: str, time: Any, entries: Iterable[Any]) -> Handle:
         """A new row."""
@@ -186,11 +221,25 @@ class Session:
         """Asks for the logarithm of that signature."""
         return self.ask("log", tick_of(start), tick_of(stop), resolution, at)
 
+    def partition(self, times: Iterable[Any], resolution: int = 16, *, at: int) -> Partition[Handle, Handle]:
+        """Asks in one line, at a named version, for the logarithm from each of 2 to 65 times up to the next one, and
+        for the signature from the first up to the last.
+        """
+        return self.parts(list(map(tick_of, times)), resolution, at)
+
     def ask(self, kind: str, start: int, stop: int, resolution: int = 16, at: int | None = None) -> Handle:
         """A query by its kind and ticks."""
         handle = self.line(query_line(kind, start, stop, resolution, at))
         self.intervals[handle.command] = start, stop
         return handle
+
+    def parts(self, ticks: Sequence[int], resolution: int, at: int) -> Partition[Handle, Handle]:
+        """A partition by its ticks."""
+        *logs, whole = self.commands(parts_line(ticks, resolution, at))
+        for handle, interval in zip(logs, pairwise(ticks)):
+            self.intervals[handle.command] = interval
+        self.intervals[whole.command] = ticks[0], ticks[-1]
+        return Partition(logs, whole)
 
     def _whole(self, entries: Iterable[Any]) -> tuple[int, ...]:
         return entries_of(entries, self.script.width, self.script.depth, self.script.scale)

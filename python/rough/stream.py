@@ -7,15 +7,17 @@ from __future__ import annotations
 from collections.abc import Callable, Iterable, Sequence
 from fractions import Fraction
 from functools import cache
-from itertools import accumulate
+from itertools import accumulate, pairwise
 from typing import Any, NamedTuple
 
 from .basis import check_shape, weight_of, word_count
 from .faults import NameTaken, NoRow, NoVersion, Overflow, Refusal
 from .program import Program
 from .script import (
+    MOST_PARTS,
     Answer,
     Handle,
+    Partition,
     Script,
     append_line,
     check_query,
@@ -66,6 +68,14 @@ class _Asked(NamedTuple):
 class _Edit(NamedTuple):
     tick: int
     line: str
+
+
+class _Plan(NamedTuple):
+    """A script, with the handles of its queries, and of the edits before the last of them."""
+
+    script: Script
+    queries: list[Handle]
+    edits: list[Handle]
 
 
 class Stream:
@@ -169,6 +179,29 @@ class Stream:
         """The logarithm over each interval."""
         return self.ask([Query("log", start, stop, resolution, at) for start, stop in intervals])
 
+    def partition(
+        self, times: Iterable[Any], resolution: int = 16, at: int | None = None
+    ) -> Partition[LogSignature, Signature]:
+        """The logarithm from each time up to the next one, and the signature from the first up to the last: `.logs`
+        and `.whole`.
+
+        They are asked for in one line where it has room for them, and none is known yet; else as by `ask`.
+        """
+        ends = list(times)
+        if len(ends) < 2:
+            raise ValueError(f"a partition has at least 2 times, and not {len(ends)}")
+        queries = [Query("log", start, stop, resolution, at) for start, stop in pairwise(ends)]
+        queries.append(Query("sig", ends[0], ends[-1], resolution, at))
+        asked = list(map(self._asked, queries))
+        if (
+            len(ends) <= MOST_PARTS + 1
+            and self._answers.keys().isdisjoint(asked)
+            and self._fitting(asked) == len(asked)
+        ):
+            self._answer(asked, self._plan_of_parts(asked))
+        *logs, whole = self.ask(queries)
+        return Partition(logs, whole)
+
     def history(
         self, start: Any, stop: Any, kind: str = "sig", resolution: int = 16, versions: Iterable[int] | None = None
     ) -> dict[int, Any]:
@@ -204,7 +237,7 @@ class Stream:
         wanted = sorted(set(asked) - self._answers.keys())
         while wanted:
             count = self._fitting(wanted)
-            self._answer(wanted[:count])
+            self._answer(wanted[:count], self._plan(wanted[:count]))
             wanted = wanted[count:]
         answers = [self._answers[query] for query in asked]
         refused = next((answer for answer in answers if isinstance(answer, Refusal)), None)
@@ -216,10 +249,10 @@ class Stream:
         """The script of all edits and of these queries, each after the edits of its version; `str(script)` is
         its text.
         """
-        script, _, edits = self._plan(sorted(self._asked(Query(*query)) for query in queries))
-        for edit in self._edits[len(edits) :]:
-            script.sessions[0].line(edit.line)
-        return script
+        plan = self._plan(sorted(self._asked(Query(*query)) for query in queries))
+        for edit in self._edits[len(plan.edits) :]:
+            plan.script.sessions[0].line(edit.line)
+        return plan.script
 
     def _next_name(self) -> str:
         self._named += 1
@@ -267,10 +300,8 @@ class Stream:
         script.session()
         return script
 
-    def _plan(self, asked: Sequence[_Asked]) -> tuple[Script, list[Handle], list[Handle]]:
-        """The script of some queries, by rising version: with the handles of the queries, and of the edits before
-        the last.
-        """
+    def _plan(self, asked: Sequence[_Asked]) -> _Plan:
+        """The script of some queries, by rising version."""
         script = self._empty_script()
         session = script.sessions[0]
         handles: list[Handle] = []
@@ -278,15 +309,23 @@ class Stream:
         for query in asked:
             edits += [session.line(edit.line) for edit in self._edits[len(edits) : query.version]]
             handles.append(session.ask(*query[1:]))
-        return script, handles, edits
+        return _Plan(script, handles, edits)
 
-    def _answer(self, asked: Sequence[_Asked]) -> None:
-        """Runs the program for some queries, and keeps their answers."""
-        script, handles, edits = self._plan(asked)
-        run = script.run(cache=self._cache, program=self._program)
-        if [run.answer(handle) for handle in edits] != list(range(1, len(edits) + 1)):
+    def _plan_of_parts(self, asked: Sequence[_Asked]) -> _Plan:
+        """The script of the queries of a partition, in one line."""
+        script, whole = self._empty_script(), asked[-1]
+        session = script.sessions[0]
+        edits = [session.line(edit.line) for edit in self._edits[: whole.version]]
+        ticks = [*(query.start for query in asked[:-1]), whole.stop]
+        logs, last = session.parts(ticks, whole.resolution, whole.version)
+        return _Plan(script, [*logs, last], edits)
+
+    def _answer(self, asked: Sequence[_Asked], plan: _Plan) -> None:
+        """Runs the program for some queries, whose script is the plan, and keeps their answers."""
+        run = plan.script.run(cache=self._cache, program=self._program)
+        if [run.answer(handle) for handle in plan.edits] != list(range(1, len(plan.edits) + 1)):
             raise AssertionError("the program numbers the versions otherwise")
-        for query, handle in zip(asked, handles):
+        for query, handle in zip(asked, plan.queries):
             answer = run.answer(handle)
             if isinstance(answer, Value) and answer.version != query.version:
                 raise AssertionError("the program answers for another version")

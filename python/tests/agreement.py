@@ -4,9 +4,10 @@ from __future__ import annotations
 
 import random
 from fractions import Fraction
+from itertools import pairwise
 
 import rough
-from chen import Rows, chen, rows_in
+from chen import Rows, Word, chen, exponential, rows_in
 
 
 def edited_stream(
@@ -46,9 +47,31 @@ def check_answers(seed: int, width: int, depth: int, program: rough.Program | No
     logarithms = stream.ask([query._replace(kind="log") for query in queries])
     for query, signature, logarithm in zip(queries, signatures, logarithms):
         due = chen(rows_in(versions[query.at], query.start, query.stop, query.resolution), width, depth)
-        assert signature.terms() == {word: x for word, x in due.items() if x}, query
+        assert signature.terms() == nonzero(due), query
         assert logarithm.expand() == signature.log(), query
         assert signature.version == logarithm.version == query.at, query
+
+
+def check_partition(seed: int, width: int, depth: int, program: rough.Program | None = None) -> None:
+    """The logarithms and the signature of a random partition with two equal times, at a random version."""
+    draw = random.Random(-seed)
+    stream, versions = edited_stream(seed, width, depth, program)
+    times = sorted(Fraction(draw.randrange(5 * 2**16), 2**16) for _ in range(5))
+    times.insert(2, times[2])
+    resolution, at = draw.choice([0, 1, 2]), draw.randrange(20, stream.version)
+    logs, whole = stream.partition(times, resolution, at)
+    intervals = [*pairwise(times), (times[0], times[-1])]
+    dues = [nonzero(chen(rows_in(versions[at], *ends, resolution), width, depth)) for ends in intervals]
+    for log, due in zip(logs, dues[:-1], strict=True):
+        assert isinstance(log, rough.LogSignature), log
+        assert nonzero(exponential(log.expand(), depth)) == due, log.interval
+    assert whole.terms() == dues[-1], times
+    assert {value.version for value in (*logs, whole)} == {at}, at
+
+
+def nonzero(terms: dict[Word, Fraction]) -> dict[Word, Fraction]:
+    """The coefficients that aren't 0."""
+    return {word: x for word, x in terms.items() if x}
 
 
 def check_weight(program: rough.Program | None = None) -> None:

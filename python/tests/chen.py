@@ -24,6 +24,18 @@ def chen(rows: Iterable[Sequence], width: int, depth: int) -> dict[Word, Fractio
     return total
 
 
+def logarithm(series: dict[Word, Fraction], depth: int) -> dict[Word, Fraction]:
+    """The nonzero coefficients of the sum of the powers of a series less 1, with signs, over their degrees."""
+    reduced = {word: x for word, x in series.items() if word and x}
+    power: dict[Word, Fraction] = {(): Fraction(1)}
+    total: dict[Word, Fraction] = {}
+    for m in range(1, depth + 1):
+        power = multiplied(power, reduced, depth)
+        for word, x in power.items():
+            total[word] = total.get(word, Fraction(0)) + (x if m % 2 else -x) / m
+    return {word: x for word, x in total.items() if x}
+
+
 def exponential(element: dict[Word, Fraction], depth: int) -> dict[Word, Fraction]:
     """The sum of the powers over their factorials."""
     power: dict[Word, Fraction] = {(): Fraction(1)}

@@ -46,6 +46,14 @@ class Scripts(unittest.TestCase):
             ("sig 0 1 4294967296", "number", "4294967296"),
             ("sig 0 1 0 at 18446744073709551616", "number", "18446744073709551616"),
             ("sig 0 1 17", "resolution", "17"),
+            ("parts 16 0 0", "fields", None),
+            ("parts 16 0" + 66 * " 0", "fields", None),
+            ("parts 4294967296 x 0 1", "number", "4294967296"),
+            ("parts 16 18446744073709551616 0 1/10", "number", "18446744073709551616"),
+            ("parts 16 4294967296 0 1/10 65537", "time", "1/10"),
+            ("parts 17 0 0 65537", "time", "65537"),
+            ("parts 17 0 0 2 1", "interval", None),
+            ("parts 17 0 0 1 1 65536", "resolution", "17"),
             ("append a\\x 0 1 2", "name", "a\\x"),
             ("plot 0 1", "keyword", "plot"),
             ("session 3", "session", "3"),
@@ -56,6 +64,16 @@ class Scripts(unittest.TestCase):
                 rough.Program().run(f"shape 2 2\nsession 1\n{line}\n".encode())
             fault = caught.exception
             self.assertEqual((fault.line, fault.reason, fault.content, fault.field), (3, reason, line, field))
+
+    def test_mends(self):
+        for line, mend in (
+            ("part 16 0 0 1", "`part` is none of shape, session, append, correct, remove, sig, log and parts"),
+            ("parts 16 0 1", "it hasn't the words that are due: parts resolution version, and 2 to 65 times"),
+            ("parts 16 0 1 2 3/2", "times of `parts` may be equal, and never fall"),
+        ):
+            with self.assertRaises(rough.ScriptFault) as caught:
+                rough.Program().run(f"shape 2 2\nsession 1\n{line}\n".encode())
+            self.assertIn(mend, str(caught.exception))
 
     def test_byte(self):
         with self.assertRaises(rough.ScriptFault) as caught:

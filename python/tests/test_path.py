@@ -2,6 +2,7 @@
 
 import io
 import random
+import re
 import tempfile
 import unittest
 from contextlib import redirect_stderr, redirect_stdout
@@ -205,6 +206,23 @@ class Shell(unittest.TestCase):
             "line 1, `shape 1`: it hasn't the words that are due: shape W N",
             self.shell("check", files=("shape 1\n",))[2],
         )
+
+    def test_check_of_a_partition(self):
+        commands = ("append a 0 60097", "parts\t16 1 0 0 1", "remove b", "parts 16 2 0 1", "append a 0 1")
+        status, _, told = self.shell("check", files=("\n".join(("shape 1 8", "session 1", *commands)) + "\n",))
+        self.assertEqual(status, 1)
+        self.assertEqual(
+            re.findall(r"line (\d), `(.*)`: session 1, command (\d): ", told),
+            [
+                ("4", "parts 16 1 0 0 1", "3"),
+                ("4", "parts 16 1 0 0 1", "4"),
+                ("5", "remove b", "5"),
+                ("6", "parts 16 2 0 1", "6"),
+                ("6", "parts 16 2 0 1", "7"),
+                ("7", "append a 0 1", "8"),
+            ],
+        )
+        self.assertIn("8 commands, 1 versions, 6 refused", told)
 
 
 if __name__ == "__main__":

@@ -4,6 +4,9 @@ import json
 import unittest
 from decimal import Decimal
 from fractions import Fraction
+from functools import reduce
+from itertools import pairwise
+from operator import mul
 
 import rough
 from chen import walk
@@ -36,6 +39,109 @@ class Versions(unittest.TestCase):
         self.assertEqual(rough.floor_time("0.1"), Fraction(6553, 65536))
         self.assertEqual(stream.append(2, [1], name="r7"), "r7")
         self.assertEqual([stream.append(2, [1]), stream.append(2, [1])], ["r6", "r8"])
+
+
+class Listener(rough.Program):
+    """The program, which keeps the lines of the scripts that it runs."""
+
+    def __init__(self) -> None:
+        super().__init__()
+        self.scripts: list[list[str]] = []
+
+    def run(self, script, words=()):
+        self.scripts.append(script.decode().splitlines())
+        return super().run(script, words)
+
+
+class Partitions(unittest.TestCase):
+    def test_values(self):
+        stream = rough.Stream.from_increments(walk(20, 2), depth=4, scale=[2, 10])
+        times = [0, "1/2", 3, 3, Fraction(19, 2), 20]
+        logs, whole = stream.partition(times)
+        parts = stream.signatures(list(pairwise(times)))
+        self.assertEqual([log.expand() for log in logs], [part.log() for part in parts])
+        self.assertEqual(whole, reduce(mul, parts))
+        self.assertEqual((logs[3].interval, logs[2].interval), ((3, Fraction(19, 2)), (3, 3)))
+        self.assertEqual((whole.interval, whole.version, logs[2].terms()), ((0, 20), 20, {}))
+
+    def test_one_line(self):
+        program = Listener()
+        stream = rough.Stream.from_increments(walk(6, 2), depth=3, program=program)
+        stream.correct("r3", [1, 1])
+        logs, whole = stream.partition([0, 2, 6], resolution=0, at=6)
+        self.assertEqual(program.scripts[0][-1], "parts 0 6 0 2 6")
+        self.assertEqual(len(program.scripts[0]), 2 + 6 + 1)
+        self.assertEqual(stream.log_signatures([(0, 2), (2, 6)], 0, at=6), logs)
+        self.assertEqual(stream.signature(0, 6, 0, at=6), whole)
+        self.assertEqual(stream.partition([0, 2, 6], resolution=0, at=6), (logs, whole))
+        self.assertEqual(len(program.scripts), 1)
+        self.assertEqual(stream.partition([0, 2, 4], resolution=0, at=6).logs[0], logs[0])
+        self.assertEqual(program.scripts[1][-2:], ["log 2 4 0", "sig 0 4 0"])
+
+    def test_handles_count_commands(self):
+        script = rough.Script(2, 2)
+        one, two = script.session(), script.session()
+        one.append("a", 0, [1, 0])
+        one.append("b", "1/2", [0, 1])
+        logs, whole = one.partition([0, "1/2", 1], resolution=1, at=2)
+        self.assertEqual((logs, whole), ([(1, 3), (1, 4)], (1, 5)))
+        self.assertEqual((one.remove("a"), one.line("parts 1 3 0 1"), one.remove("b")), ((1, 6), (1, 7), (1, 9)))
+        self.assertEqual(two.partition(range(65), at=0).whole, (2, 65))
+        self.assertEqual(one.lines[2], "parts 1 2 0 1/2 1")
+        run = script.run()
+        self.assertEqual([run[log].texts() and run[log].terms() for log in logs], [{1: 1}, {2: 1}])
+        self.assertEqual(run[whole].terms(), {(): 1, (1,): 1, (2,): 1, (1, 1): 0.5, (1, 2): 1, (2, 2): 0.5})
+        self.assertEqual((run[logs[1]].interval, run[whole].interval), ((0.5, 1), (0, 1)))
+        self.assertEqual((run[rough.Handle(1, 9)], len(list(run))), (4, 9 + 65))
+        self.assertEqual(run.replay().order, run.order)
+
+    def test_more_than_64_parts(self):
+        program = Listener()
+        stream = rough.Stream.from_increments(walk(65, 2), depth=3, program=program)
+        most, more = stream.partition(range(65)), stream.partition([time + Fraction(1, 2) for time in range(66)])
+        self.assertEqual([len(script) - 2 - 65 for script in program.scripts], [1, 66])
+        self.assertEqual((len(most.logs), len(more.logs)), (64, 65))
+        self.assertEqual([log[1] for log in more.logs], [row.entries[0] for row in stream.rows.values()][1:] + [0])
+        self.assertEqual(more.whole, stream.signature(1, 65))
+
+    def test_limits(self):
+        program = Listener()
+        stream = rough.Stream.from_increments([[1] * 12] * 4240, depth=3, program=program)
+        stream.partition([0, 1, 2, 3])
+        self.assertEqual([len(script) - 2 for script in program.scripts], [4241])
+        logs, whole = stream.partition([4, 5, 6, 7, 8])
+        self.assertEqual([len(script) - 2 for script in program.scripts[1:]], [4244, 4241])
+        self.assertEqual((logs[3][12], whole[12]), (1, 4))
+
+    def test_refused(self):
+        script = rough.Script(1, 8)
+        session = script.session()
+        session.append("a", 0, [60096])
+        session.append("b", 1, [1])
+        logs, whole = session.partition([0, 1, 2], at=3)
+        fits, too_great = session.partition([1, 2], at=2), session.partition([0, 2], at=2)
+        run = script.run()
+        for handle in (*logs, whole):
+            with self.assertRaises(rough.NoVersion) as caught:
+                run[handle]
+            self.assertEqual((caught.exception.command, caught.exception.version), (handle.command, 2))
+        self.assertEqual((run[fits.logs[0]][1], run[fits.whole][1]), (1, 1))
+        self.assertEqual(run.answer(too_great.whole).weight, 60097)
+        for times, resolution in (((0,), 16), (range(66), 16), ((0, 2, 1), 16), ((0, 1), 17), ((0, 0.1), 16)):
+            with self.assertRaises(ValueError):
+                session.partition(times, resolution, at=2)
+        self.assertEqual(session.count, 9)
+
+    def test_refused_by_the_stream(self):
+        stream = rough.Stream.from_increments([[60096], [1]], depth=8)
+        with self.assertRaises(rough.NoVersion):
+            stream.partition([0, 1], at=3)
+        for times in ([0, 2], [time - 1 for time in range(1, 80)]):
+            with self.assertRaises(rough.Overflow):
+                stream.partition(times)
+        for times, resolution in (((), 16), ((0,), 16), ((0, 2, 1), 16), ((0, 1), 17), ((0, 65537), 16)):
+            with self.assertRaises(ValueError):
+                stream.partition(times, resolution)
 
 
 class Refused(unittest.TestCase):

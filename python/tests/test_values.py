@@ -4,8 +4,8 @@ import unittest
 from fractions import Fraction
 
 import rough
-from agreement import check_answers, check_weight
-from chen import chen, walk
+from agreement import check_answers, check_partition, check_weight
+from chen import chen, logarithm, walk
 
 try:
     import numpy
@@ -21,6 +21,10 @@ class Agreement(unittest.TestCase):
     def test_rows_that_are_lie_elements(self):
         for seed, (width, depth) in enumerate([(1, 3), (2, 1), (2, 5), (3, 3), (4, 2)], 1):
             check_answers(seed, width, depth, max_degree=3)
+
+    def test_partitions(self):
+        for seed, (width, depth) in enumerate([(1, 8), (2, 1), (2, 5), (3, 3), (5, 2)], 1):
+            check_partition(seed, width, depth)
 
     def test_weight_of_lie_elements(self):
         for entries in ([60097, 0], [0, 0, 225720577], [1000, -70000, 7, 10**13, 5], [3, 4, 5, 6, 7, 10**16, 1, 2]):
@@ -38,6 +42,28 @@ class Agreement(unittest.TestCase):
             rows = walk(12, width)
             value = rough.Stream.from_increments(rows, depth=depth).signature(0, 12)
             self.assertEqual(value.dense(), list(chen(rows, width, depth).values()))
+
+    def test_products_of_exponentials(self):
+        for width, depth in ((1, 8), (2, 5), (3, 3), (12, 2)):
+            elements = [*walk(5, width), {"1": 3}, [*range(1, rough.basis.entry_counts(width, depth)[-1] + 1)]]
+            moves = [rough.script.entries_of(element, width, depth, None) for element in elements]
+            due = chen(moves, width, depth)
+            self.assertEqual(rough.cbh(width, depth, elements).expand(), logarithm(due, depth))
+
+    def test_products_that_are_nothing(self):
+        self.assertEqual(rough.cbh(2, 4, []).terms(), {})
+        self.assertEqual(rough.cbh(2, 3, [[1, 2, 3], [-1, -2, -3]]).terms(), {})
+        half = rough.cbh(2, 2, [["1/2", 0], [0, "1/2"]], scale=2)
+        self.assertEqual((half[1], half[2], half["[1,2]"]), (Fraction(1, 2), Fraction(1, 2), Fraction(1, 8)))
+
+    def test_products_that_are_refused(self):
+        with self.assertRaises(rough.Overflow) as raised:
+            rough.cbh(1, 8, [[6185]])
+        self.assertEqual((raised.exception.weight, raised.exception.session), (6185, None))
+        self.assertEqual(rough.cbh(1, 1, [[1]] * 4096)[1], 4096)
+        for elements in ([[1]] * 4097, [[1, 2]], [["1/2"]]):
+            with self.assertRaises(ValueError):
+                rough.cbh(1, 1, elements)
 
     def test_weight(self):
         check_weight()
