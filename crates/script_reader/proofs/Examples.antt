@@ -17,6 +17,7 @@ good = codes "shape 2 2" ++ 10 ∷ [] ++ codes "# a comment" ++ 10 ∷ [] ++ cod
 good_is : parse good ≡ Ok (record {
   extent = record { width = 2; depth = 2 };
   sessions = (commands.Edit (edit.Append (codes "a") 32768 ((pos 2 ∷ neg_ℤ (pos 3) ∷ []) ∷ [] ∷ [])) ∷ commands.Ask (record { kind = kinds.Sig; from = 0; to = 131072; r = 0; version = None }) ∷ []) ∷ [];
+  watches = [];
 })
 unfolding is_number is_tick are_entries tick_or_zero members_to degree_counts degree_with lie_move lib.Count.ones
 good_is = refl
@@ -24,6 +25,15 @@ good_is = refl
 bad_number : parse (good ++ 10 ∷ [] ++ codes "append b 1 2 x") ≡ Err (Line 6 reasons.Number)
 unfolding is_number is_tick are_entries tick_or_zero members_to degree_counts degree_with lie_move lib.Count.ones
 bad_number = refl
+
+-- a line that watches an interval, before the first session
+watched : parse (codes "shape 1 1" ++ 10 ∷ [] ++ codes "watch 1/2 5/2 0" ++ 10 ∷ [] ++ codes "session 1") ≡ Ok (record {
+  extent = record { width = 1; depth = 1 };
+  sessions = [] ∷ [];
+  watches = record { from = 0; to = 131072 } ∷ [];
+})
+unfolding is_number is_tick tick_or_zero lib.Count.ones
+watched = refl
 
 nothing : parse [] ≡ Err (Line 1 reasons.End)
 nothing = refl

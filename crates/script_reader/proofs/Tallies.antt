@@ -28,5 +28,6 @@ commands_leave t (command ∷ commands) = commands_leave (with_command t command
 pub extent_takes : (t : Tally) (said : Said) → named (with_said t said).shape ≡ extent_with (named t.shape) said
 extent_takes t (sayings.Shape shape) = refl
 extent_takes t sayings.Session = refl
+extent_takes t (sayings.Watch interval) = refl
 extent_takes t (sayings.Command command) = refl
 extent_takes t (sayings.Commands commands) = ap named (commands_leave t commands)

@@ -1,10 +1,12 @@
 -- The forms of content lines: for each of them where it may stand, what its words are, and what it says.
-use Rattle.std.specs.Prelude.{ℕ, ◌+◌, ◌-◌, ◌^◌, Bool, true, ◌&&◌, ◌||◌, ◌==◌, nat_lt, nat_le, if◌then◌else◌, List, [], ◌∷◌, drop, length, codes, Option, Some, None, is_some, is_none}
+use Rattle.std.specs.Prelude.{ℕ, ◌+◌, ◌-◌, ◌^◌, Bool, true, ◌&&◌, ◌||◌, ◌==◌, nat_lt, nat_le, if◌then◌else◌, List, [], ◌∷◌, ◌++◌, drop, length, codes, Option, Some, None, is_some, is_none}
 use Rattle.std.specs.Str.{bytes_eq}
 use Rattle.definitions.specs.Words.{Extent}
+use Rattle.definitions.specs.Rows.{rounded}
 use Rattle.spellings.specs.Numbers.{value_of}
 use Rattle.spellings.specs.Names.{is_name}
 use Rattle.versions.specs.declared.edit.Edit.TheVariants as edits
+use Rattle.watches.specs.declared.interval.Interval.{Interval}
 use Rattle.script_reader.specs.declared.command.Ask.{Ask}
 use Rattle.script_reader.specs.declared.command.Command.{Command}
 use Rattle.script_reader.specs.declared.command.Command.TheVariants as commands
@@ -14,7 +16,7 @@ use Rattle.script_reader.specs.declared.said.Said.{Said}
 use Rattle.script_reader.specs.declared.said.Said.TheVariants as sayings
 use Rattle.script_reader.specs.declared.tally.Tally.{Tally}
 use Rattle.script_reader.specs.declared.keyword.Keyword.{Keyword}
-use Rattle.script_reader.specs.declared.keyword.Keyword.TheVariants.{Shape, Session, Append, Correct, Remove, Sig, Log, Parts}
+use Rattle.script_reader.specs.declared.keyword.Keyword.TheVariants.{Shape, Session, Watch, Append, Correct, Remove, Sig, Log, Parts}
 use Rattle.script_reader.specs.declared.fault.Reason.{Reason}
 use Rattle.script_reader.specs.declared.fault.Reason.TheVariants as reasons
 use Rattle.script_reader.specs.Fields.{field, unless, first_of, is_number, is_version, is_tick, tick_or_zero, are_ticks, ticks_of, are_entries, entries_of}
@@ -111,6 +113,45 @@ remove_form = record {
   says = λ extent words. sayings.Command (commands.Edit (edits.Remove (field 1 words)));
 }
 
+-- ---- intervals at a resolution
+-- the tick where the interval of a line begins
+abbrev pub from_of : List (List ℕ) → ℕ
+from_of words = tick_or_zero (2 ^ 32) (field 1 words)
+
+-- the tick where it ends
+abbrev pub to_of : List (List ℕ) → ℕ
+to_of words = tick_or_zero (2 ^ 32) (field 2 words)
+
+-- the resolution
+abbrev pub resolution_of : List (List ℕ) → ℕ
+resolution_of words = value_of (field 3 words)
+
+-- the tests of the fields: two times and a number
+abbrev pub interval_fields : List (List ℕ) → List (Option Reason)
+interval_fields words =
+    unless (is_tick (2 ^ 32) (field 1 words)) reasons.Time
+    ∷ unless (is_tick (2 ^ 32) (field 2 words)) reasons.Time
+    ∷ unless (is_number (field 3 words)) reasons.Number
+    ∷ []
+
+-- the tests of their values
+abbrev pub interval_values : List (List ℕ) → List (Option Reason)
+interval_values words = unless (nat_le (from_of words) (to_of words)) reasons.Interval ∷ unless (nat_le (resolution_of words) 16) reasons.Resolution ∷ []
+
+-- the interval of a line, with both ends rounded down
+abbrev pub watched : List (List ℕ) → Interval
+watched words = record { from = rounded (resolution_of words) (from_of words); to = rounded (resolution_of words) (to_of words) }
+
+-- a line that watches an interval, one of at most 64
+abbrev pub watch_form : Form
+watch_form = record {
+  may_stand = λ before. is_some before.shape;
+  has_words = λ extent words. length words == 4;
+  fields = interval_fields;
+  values = λ before words. interval_values words ++ unless (nat_lt before.watches 64) reasons.Watches ∷ [];
+  says = λ extent words. sayings.Watch (watched words);
+}
+
 -- ---- queries
 -- four words, or six of which the fifth is `at`
 abbrev pub has_query_fields : List (List ℕ) → Bool
@@ -124,9 +165,9 @@ version_of words = if length words == 4 then None else Some (value_of (field 5 w
 abbrev pub ask_of : Kind → List (List ℕ) → Ask
 ask_of kind words = record {
   kind = kind;
-  from = tick_or_zero (2 ^ 32) (field 1 words);
-  to = tick_or_zero (2 ^ 32) (field 2 words);
-  r = value_of (field 3 words);
+  from = from_of words;
+  to = to_of words;
+  r = resolution_of words;
   version = version_of words;
 }
 
@@ -135,16 +176,8 @@ abbrev pub query_form : Kind → Form
 query_form kind = record {
   may_stand = is_opened;
   has_words = λ extent words. has_query_fields words;
-  fields = λ words.
-      unless (is_tick (2 ^ 32) (field 1 words)) reasons.Time
-      ∷ unless (is_tick (2 ^ 32) (field 2 words)) reasons.Time
-      ∷ unless (is_number (field 3 words)) reasons.Number
-      ∷ unless (length words == 4 || is_version (field 5 words)) reasons.Number
-      ∷ [];
-  values = λ before words.
-      unless (nat_le (ask_of kind words).from (ask_of kind words).to) reasons.Interval
-      ∷ unless (nat_le (ask_of kind words).r 16) reasons.Resolution
-      ∷ [];
+  fields = λ words. interval_fields words ++ unless (length words == 4 || is_version (field 5 words)) reasons.Number ∷ [];
+  values = λ before words. interval_values words;
   says = λ extent words. sayings.Command (commands.Ask (ask_of kind words));
 }
 
@@ -191,6 +224,7 @@ abbrev pub keyword_of : List ℕ → Option Keyword
 keyword_of word =
     if bytes_eq word (codes "shape") then Some Shape
     else if bytes_eq word (codes "session") then Some Session
+    else if bytes_eq word (codes "watch") then Some Watch
     else if bytes_eq word (codes "append") then Some Append
     else if bytes_eq word (codes "correct") then Some Correct
     else if bytes_eq word (codes "remove") then Some Remove
@@ -203,6 +237,7 @@ keyword_of word =
 abbrev pub form_of : Keyword → Form
 form_of Shape = shape_form
 form_of Session = session_form
+form_of Watch = watch_form
 form_of Append = append_form
 form_of Correct = correct_form
 form_of Remove = remove_form

@@ -27,13 +27,14 @@ is_query (Ask ask) = true
 abbrev pub commands_of : Said → List Command
 commands_of (sayings.Shape shape) = []
 commands_of sayings.Session = []
+commands_of (sayings.Watch interval) = []
 commands_of (sayings.Command command) = command ∷ []
 commands_of (sayings.Commands commands) = commands
 
 -- ---- tallies: all that the reasons of a line depend on, of the content lines before it
 -- the tally before the first line
 abbrev pub nothing_said : Tally
-nothing_said = record { shape = None; sessions = 0; commands = 0; queries = 0 }
+nothing_said = record { shape = None; sessions = 0; watches = 0; commands = 0; queries = 0 }
 
 -- the tally after one command more
 abbrev pub with_command : Tally → Command → Tally
@@ -50,6 +51,7 @@ with_commands before commands = fold with_command before commands
 abbrev pub with_said : Tally → Said → Tally
 with_said before (sayings.Shape shape) = record before { shape = Some shape }
 with_said before sayings.Session = record before { sessions = before.sessions + 1 }
+with_said before (sayings.Watch interval) = record before { watches = before.watches + 1 }
 with_said before said = with_commands before (commands_of said)
 
 -- ---- limits

@@ -12,18 +12,21 @@ use Rattle.script_reader.specs.declared.command.Ask.{Ask}
 use Rattle.script_reader.specs.declared.said.Said.{Said}
 use Rattle.script_reader.specs.declared.said.Said.TheVariants as sayings
 use Rattle.versions.specs.Versions.{IsEdit}
+use Rattle.watches.specs.declared.interval.Interval.{Interval}
+use Rattle.watches.specs.Watches.{IsInterval}
 use Rattle.script_reader.specs.Limits.{named, commands_of}
 use Rattle.script_reader.specs.Lines.{said_in, tally, reason_of}
 
--- a shape, and the commands of each session
+-- a shape, the commands of each session, and the watched intervals
 pub record ScriptValue : Type 0 where
   pub extent : Extent
   pub sessions : List (List Command)
+  pub watches : List Interval
 
 -- ---- what good content lines say
 -- the script before the first line
 abbrev pub empty_script : ScriptValue
-empty_script = record { extent = named None; sessions = [] }
+empty_script = record { extent = named None; sessions = []; watches = [] }
 
 -- a command more for the last session
 abbrev pub onto_last : Command → List (List Command) → List (List Command)
@@ -41,6 +44,11 @@ sessions_with sessions (sayings.Shape shape) = sessions
 sessions_with sessions sayings.Session = sessions ++ [] ∷ []
 sessions_with sessions said = all_onto_last sessions (commands_of said)
 
+-- the watched intervals after one line more
+abbrev pub watches_with : List Interval → Said → List Interval
+watches_with watches (sayings.Watch interval) = watches ++ interval ∷ []
+watches_with watches _ = watches
+
 -- the extent after one line more
 abbrev pub extent_with : Extent → Said → Extent
 extent_with extent (sayings.Shape shape) = shape
@@ -48,7 +56,7 @@ extent_with extent _ = extent
 
 -- the script after one line more
 abbrev pub script_with : ScriptValue → Said → ScriptValue
-script_with script said = record { extent = extent_with script.extent said; sessions = sessions_with script.sessions said }
+script_with script said = record { extent = extent_with script.extent said; sessions = sessions_with script.sessions said; watches = watches_with script.watches said }
 
 -- the script after what a line says, if it says something
 abbrev pub script_with_some : ScriptValue → Option Said → ScriptValue
@@ -104,3 +112,5 @@ pub record IsScript (script : ScriptValue) : Type 0 where
   pub few_sessions : length script.sessions ≤ 16
   pub few_commands : sum_by length script.sessions ≤ 65536
   pub commands : All (All (IsCommand script.extent)) script.sessions
+  pub few_watches : length script.watches ≤ 64
+  pub watches : All IsInterval script.watches

@@ -33,6 +33,8 @@ pub enum Reason {
     Interval,
     /// The resolution exceeds 16.
     Resolution,
+    /// It is the 65th watch.
+    Watches,
     /// It is the 65,537th command.
     Commands,
     /// The commands so far times the words of the shape exceed 8,000,000.

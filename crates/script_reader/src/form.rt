@@ -10,6 +10,7 @@ ghost use Rattle.script_reader.specs.Reading.{IsRefusal, IsTally, Reads, IsSaid}
 
 mod edits;
 pub(crate) mod fields;
+mod intervals;
 pub(crate) mod openings;
 mod partitions;
 mod queries;
@@ -18,6 +19,7 @@ use crate::command::Kind;
 use crate::fault::{LineFault, Reason};
 use crate::form::edits::{read_append, read_correct, read_remove};
 use crate::form::fields::word_at;
+use crate::form::intervals::read_watch;
 use crate::form::openings::{read_session, read_shape};
 use crate::form::partitions::read_parts;
 use crate::form::queries::read_query;
@@ -42,6 +44,7 @@ fn read_form(
     match keyword {
         Keyword::Shape => read_shape(tally, words),
         Keyword::Session => read_session(tally, words),
+        Keyword::Watch => read_watch(tally, words),
         Keyword::Append => read_append(alloc, tally, counts, words),
         Keyword::Correct => read_correct(alloc, tally, counts, words),
         Keyword::Remove => read_remove(alloc, tally, words),

@@ -6,6 +6,7 @@ ghost use Rattle.script_reader.specs.Forms.{keyword_of};
 pub enum Keyword {
     Shape,
     Session,
+    Watch,
     Append,
     Correct,
     Remove,
@@ -21,6 +22,7 @@ pub(crate) fn keyword_of(word: &[u8]) -> Option<Keyword>
     match word {
         b"shape" => Some(Keyword::Shape),
         b"session" => Some(Keyword::Session),
+        b"watch" => Some(Keyword::Watch),
         b"append" => Some(Keyword::Append),
         b"correct" => Some(Keyword::Correct),
         b"remove" => Some(Keyword::Remove),

@@ -18,6 +18,7 @@ pub use increments::Name;
 pub use reader::read_script;
 pub use script::Script;
 pub use versions::Edit;
+pub use watches::Interval;
 
 #[cfg(test)]
 mod tests;

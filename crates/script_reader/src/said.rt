@@ -3,6 +3,7 @@ ghost use Rattle.script_reader.specs.Limits.{commands_of};
 
 use crate::command::{Command, Commands};
 use std::slice;
+use watches::Interval;
 use words::Shape;
 
 /// What a good content line says.
@@ -11,6 +12,8 @@ pub(crate) enum Said {
     Shape(Shape),
     /// The next session begins.
     Session,
+    /// The interval is watched.
+    Watch(Interval),
     Command(Command),
     /// Several commands, in order.
     Commands(Commands),
@@ -22,7 +25,7 @@ impl Said {
         ensures { result.now ≡ commands_of self.now }
     {
         match self {
-            Said::Shape(_) | Said::Session => &[],
+            Said::Shape(_) | Said::Session | Said::Watch(_) => &[],
             Said::Command(command) => slice::from_ref(command),
             Said::Commands(commands) => commands.list(),
         }

@@ -3,14 +3,16 @@ ghost use Rattle.script_reader.specs.Script.{IsScript};
 
 use crate::command::Commands;
 use std::marker::Model;
+use watches::Interval;
 use words::Shape;
 
-/// A script: a shape, and the commands of 1 to 16 sessions, at most 65,536 in all.
-/// Each edit is one of the shape, and each query keeps `from <= to <= 2^32` and `r <= 16`.
+/// A script: a shape, the commands of 1 to 16 sessions, at most 65,536 in all, and at most 64 watched intervals.
+/// Each edit is one of the shape, each query keeps `from <= to <= 2^32` and `r <= 16`, and each watched interval `from <= to <= 2^32`.
 #[derive(Drop)]
 pub struct Script {
     shape: Shape,
     sessions: Vec<Commands>,
+    watches: Vec<Interval>,
 }
 
 impl Model for Script {
@@ -18,18 +20,22 @@ impl Model for Script {
 
     ghost Value = { ScriptValue };
 
-    ghost view = { λ s. record { extent = s.shape; sessions = s.sessions.items } };
+    ghost view = { λ s. record { extent = s.shape; sessions = s.sessions.items; watches = s.watches.items } };
 
-    ghost invariant = { λ s. IsScript (record { extent = s.shape; sessions = s.sessions.items }) };
+    ghost invariant = { λ s. IsScript (record { extent = s.shape; sessions = s.sessions.items; watches = s.watches.items }) };
 }
 
 impl Script {
-    /// The script of this shape and these sessions.
-    pub fn of(shape: Shape, sessions: Vec<Commands>) -> Script
-        requires { IsScript (record { extent = shape; sessions = sessions.items }) }
-        ensures { result ≡ record { extent = shape; sessions = sessions.items } }
+    /// The script of this shape, these sessions and these watched intervals.
+    pub fn of(shape: Shape, sessions: Vec<Commands>, watches: Vec<Interval>) -> Script
+        requires { IsScript (record { extent = shape; sessions = sessions.items; watches = watches.items }) }
+        ensures { result ≡ record { extent = shape; sessions = sessions.items; watches = watches.items } }
     {
-        Script { shape, sessions }
+        Script {
+            shape,
+            sessions,
+            watches,
+        }
     }
 
     /// The shape.
@@ -46,5 +52,13 @@ impl Script {
         ensures script { IsScript self.now }
     {
         &self.sessions
+    }
+
+    /// The watched intervals, in the order of their lines.
+    pub fn watches(&self) -> &[Interval]
+        ensures value { result.now ≡ self.now.watches }
+        ensures script { IsScript self.now }
+    {
+        &self.watches
     }
 }

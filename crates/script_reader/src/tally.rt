@@ -21,6 +21,8 @@ pub(crate) struct Tally {
     pub shape: Option<Shape>,
     /// The session lines.
     pub sessions: u64,
+    /// The watch lines.
+    pub watches: u64,
     /// The commands, queries included.
     pub commands: u64,
     /// The queries.

@@ -17,7 +17,7 @@ fn repeated(alloc: Global, head: &str, line: &str, count: u32) -> Result<Vec<u8>
 }
 
 /// Scripts whose fault is in their first lines, with the bad line and its reason.
-const FIRST_LINES: [(&str, u64, Reason); 32] = [
+const FIRST_LINES: [(&str, u64, Reason); 33] = [
     ("", 1, Reason::End),
     ("\n", 2, Reason::End),
     ("\r", 2, Reason::End),
@@ -31,6 +31,7 @@ const FIRST_LINES: [(&str, u64, Reason); 32] = [
     ("\nShape 2 2", 2, Reason::Keyword),
     ("session 1", 1, Reason::Place),
     ("log", 1, Reason::Place),
+    ("watch", 1, Reason::Place),
     ("shape 2 2\n\nshape", 3, Reason::Place),
     ("shape 2 2\nappend a", 2, Reason::Place),
     ("shape 2 2\ncorrect a", 2, Reason::Place),
@@ -61,6 +62,69 @@ fn first_lines(rt: HostRuntime) {
             "{text}"
         );
     }
+}
+
+/// Lines after `shape 2 2`, with the bad line of the script and its reason.
+const WATCHES: [(&str, u64, Reason); 9] = [
+    ("watch 0 1 0", 3, Reason::End),
+    ("watch 0 1", 2, Reason::Fields),
+    ("watch 0 1 0 at 1", 2, Reason::Fields),
+    ("watch 0 x y", 2, Reason::Time),
+    ("watch 0 65537 -", 2, Reason::Time),
+    ("watch 2 1 x", 2, Reason::Number),
+    ("watch 2 1 17", 2, Reason::Interval),
+    ("watch 0 65536 17", 2, Reason::Resolution),
+    ("watch 1 1 16\nwatches", 3, Reason::Keyword),
+];
+
+#[test]
+fn watches(rt: HostRuntime) -> Result<(), Fail> {
+    for (text, line, reason) in WATCHES {
+        let script = format!(in rt.alloc(); "shape 2 2\n{text}")?;
+        assert_eq!(rt;
+            fault_of(rt.alloc(), script.as_bytes()),
+            Some(ScriptFault::Line(line, reason)),
+            "{text}"
+        );
+    }
+    Ok(())
+}
+
+#[test]
+fn number_of_watches(rt: HostRuntime) -> Result<(), Fail> {
+    for (count, last, reason) in [
+        (63, "watch 0 1 0", None),
+        (64, "watch 0 1 17", Some(Reason::Resolution)),
+        (64, "watch 0 1 0", Some(Reason::Watches)),
+    ] {
+        let head = "shape 2 2\nsession 1\n";
+        let mut bytes = repeated(rt.alloc(), head, "watch 0 1 0\n", count)?;
+        bytes.extend_from_slice(last.as_bytes())?;
+        let fault = reason.map(|reason| ScriptFault::Line(u64::from(count) + 3, reason));
+        assert_eq!(rt; fault_of(rt.alloc(), &bytes), fault, "{last} after {count}");
+    }
+    Ok(())
+}
+
+/// Watches before the first session and inside two sessions.
+const WATCHED: &str =
+    "shape 2 2\nwatch 1/2 5/2 0\nsession 1\nsig 0 1 0\nwatch 0 65536 16\nsig 0 1 0\nsession 2\nwatch 3/4 3/4 1\nlog 0 1 0";
+
+#[test]
+fn watched_intervals(rt: HostRuntime) -> Result<(), Fail> {
+    let script = read_script(rt.alloc(), WATCHED.as_bytes())
+        .ok()
+        .ok_or("refused")?;
+    let due = [(0, 131_072), (0, 4_294_967_296), (32_768, 32_768)];
+    assert_eq!(rt; script.watches().len(), due.len());
+    for (interval, ends) in script.watches().iter().zip(due) {
+        assert_eq!(rt; (interval.from, interval.to), ends);
+    }
+    assert_eq!(rt; script.sessions().len(), 2);
+    for (session, commands) in script.sessions().iter().zip([2, 1]) {
+        assert_eq!(rt; session.list().len(), commands);
+    }
+    Ok(())
 }
 
 /// Lines after `shape 2 2` and `session 1`, with the bad line of the script and its reason.

@@ -10,7 +10,7 @@ use crate::form::fields::{number_at, tick_at, version_at, word_at};
 use crate::said::Said;
 use crate::tally::Tally;
 
-/// The greatest end of a query.
+/// The greatest end of an interval.
 pub(crate) const MOST_END: u64 = 1 << 32;
 
 pub(crate) const MOST_RESOLUTION: u64 = 16;

@@ -13,6 +13,11 @@ returns-in-session c =
     let same : codes "session" ≡ c.args.word.now = sym (text_from_reads c.args.word.now (codes "session") (omega arith) (search rules)) in
     ap keyword_of same
 
+pub returns-in-watch : goal.returns-in-watch
+returns-in-watch c =
+    let same : codes "watch" ≡ c.args.word.now = sym (text_from_reads c.args.word.now (codes "watch") (omega arith) (search rules)) in
+    ap keyword_of same
+
 pub returns-in-append : goal.returns-in-append
 returns-in-append c =
     let same : codes "append" ≡ c.args.word.now = sym (text_from_reads c.args.word.now (codes "append") (omega arith) (search rules)) in

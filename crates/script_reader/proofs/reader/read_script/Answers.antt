@@ -1,8 +1,7 @@
-use Rattle.std.proofs.Common.{◌≡◌, ◌<◌, true, length, drop, length-drop, ap, sym, ◌∙◌, rules, arith}
+use Rattle.std.proofs.Common.{◌<◌, length, drop, length-drop, ap, sym, ◌∙◌, arith}
 use Rattle.script_reader.specs.Coordinates.{degree_counts}
 use Rattle.script_reader.specs.Limits.{named}
-use Rattle.spellings.specs.Lines.{is_content}
-use Rattle.script_reader.proofs.Loop.{takes_line}
+use Rattle.script_reader.proofs.Loop.{begins, takes_line}
 use Rattle.script_reader.proofs.reader.read_script.Goals as goal
 
 pub loop-end-preserved-in_default-read : goal.loop-end-preserved-in_default-read
@@ -15,7 +14,7 @@ loop-end-preserved-in_default-read c =
     let shorter : length (drop after bytes) < length (drop from bytes) = omega (arith, length-drop after bytes, length-drop from bytes, c.in-Some.ensures.places.2, c.in-Some.ensures.places.3) in
     record {
       within = c.in-Some.ensures.places.3;
-      reading = takes_line _ _ _ _ _ _ _ _ _ c.loop-end.invariant.reading c.in-Some.ensures.line shorter content read.0 read.1;
+      reading = takes_line _ _ _ _ _ _ _ _ _ _ _ c.loop-end.invariant.reading c.in-Some.ensures.line shorter content read.0 read.1;
       counted = c.in_default-read.ensures.counted;
     }
 
@@ -23,6 +22,6 @@ pub loop-end-init : goal.loop-end-init
 unfolding degree_counts
 loop-end-init c = record {
   within = omega arith;
-  reading = search rules;
+  reading = begins c.args.bytes.now _ _ _ c.new-reader.ensures.tally c.new-reader.ensures.sessions c.new-reader.ensures.watches;
   counted = c.new-reader.ensures.counts ∙ ap (λ tally. degree_counts (named tally.shape)) (sym c.new-reader.ensures.tally);
 }

@@ -10,7 +10,9 @@ loop-command-preserved c =
     let fewer = c.in-Some.ensures.steps.1 in
     let longer = ap length steps in
     record {
-      adding = adds_next _ _ _ _ _ _ _ _ _ (rw steps at at.invariant.adding) c.in_ok-add_command.ensures.added.0 c.in_ok-add_command.ensures.added.1;
+      adding = adds_next _ _ _ _ _ _ _ _ _ _ _ (rw steps at at.invariant.adding) c.in_ok-add_command.ensures.added.0 c.in_ok-add_command.ensures.added.1
+          (ap (λ watches. watches.items) c.in_ok-add_command.ensures.watches);
       counts = c.in_ok-add_command.ensures.counts ∙ at.invariant.counts;
+      watches = c.in_ok-add_command.ensures.watches ∙ at.invariant.watches;
       count = omega (arith, at.invariant.count);
     }
