@@ -1,5 +1,5 @@
 ghost use Rattle.std.specs.Prelude.{◌≡◌, ◌+◌, ◌≤◌, [], false, true, length, is_some, IfOk, OnOk, OnErr};
-ghost use Rattle.versions.specs.Versions.{IsEdit, edit_reply};
+ghost use Rattle.versions.specs.Versions.{IsEdit, IsLog, edit_reply};
 ghost use Rattle.book.specs.Play.{Editing, Looking, Settling, pending_of, settled_of};
 ghost use Rattle.book.specs.Looks.{IsQuery, AllowsSignatures, IsLook, look_visits};
 ghost use Rattle.book.specs.Books.{IsBook, IsSession, IsReady, IsFree, IsSettledBy, state_of, log_of, with_request};
@@ -14,7 +14,7 @@ use solve::Solved;
 use std::alloc::Global;
 use std::marker::Model;
 use std::sync::ledger::Ledger;
-use versions::{Edit, EditReply, Stream};
+use versions::{Accepted, Edit, EditReply, Stream};
 use words::{Capacity, Memory, Shape, Steps};
 
 /// The edits, looks and settles of 1 to 16 sessions, one after another, over one stream and one cache of nodes. Seen as the list of the
@@ -168,5 +168,13 @@ impl Book {
         );
         self.spent = settled.is_err();
         settled
+    }
+
+    /// The accepted edits with the ticks of their rows, in order. What else the book keeps is dropped. Takes no memory.
+    pub fn into_edits(self) -> Vec<Accepted>
+        ensures value { result.items ≡ (state_of self).edits }
+        ensures log { IsLog (log_of self) }
+    {
+        self.stream.into_edits()
     }
 }

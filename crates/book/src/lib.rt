@@ -24,4 +24,4 @@ pub use look::Look;
 pub use query::{Allowed, Query};
 pub use script_reader::Kind;
 pub use step::{LookReply, Step};
-pub use versions::EditReply;
+pub use versions::{Accepted, EditReply};

@@ -11,7 +11,7 @@ use hall_set::HallSet;
 use increments::Name;
 use solve::{Solved, Through, solve};
 use std::alloc::Global;
-use std::marker::Brand;
+use std::marker::{Brand, Model};
 use std::process::Abort;
 use std::sync::ledger::{Blank, Ledger};
 use std::test::Fail;
@@ -226,23 +226,99 @@ fn ask(alloc: Global, book: &mut Book, shape: Shape, q: Query, times: u64) -> Re
     ask_with::<Brand>(alloc, book, shape, q, times, Blank::new(1))
 }
 
-/// The reply for the signature of one second, and how many nodes were kept where it missed some.
-fn second(
-    alloc: Global,
-    book: &mut Book,
+/// A book of two sessions: session 1 looks, and session 2 edits.
+#[derive(Drop)]
+struct Trial {
+    book: Book,
     shape: Shape,
-    at: u16,
-    version: Option<u64>,
-) -> Result<(LookReply, Option<u64>), Fail>
-    requires sessions { book.old.sessions ≡ 2 }
-    requires extent { book.old.extent ≡ shape }
-    ensures sessions { book.new.sessions ≡ book.old.sessions }
-    ensures extent { book.new.extent ≡ book.old.extent }
-{
-    let at = at as u64;
-    let q = sig(shape, at * SECOND, (at + 1) * SECOND, version);
-    let answer = ask(alloc, book, shape, q, 0)?;
-    Ok((answer.reply, answer.kept))
+}
+
+impl Model for Trial {
+    ghost use Rattle.std.specs.Prelude.{◌≡◌};
+    ghost use Rattle.book.specs.Books.{BookValue};
+
+    ghost Value = { BookValue };
+
+    ghost view = { λ t. t.book };
+
+    ghost invariant = { λ t. (t.book.sessions ≡ 2) × (t.book.extent ≡ t.shape) };
+}
+
+impl Trial {
+    fn new(alloc: Global, shape: Shape, capacity: Capacity) -> Result<Trial, Fail> {
+        let book = Book::new(alloc, shape, capacity, 2)?;
+        Ok(Trial { book, shape })
+    }
+
+    fn append(
+        &mut self,
+        alloc: Global,
+        text: &str,
+        tick: u32,
+        entries: &[i64],
+    ) -> Result<EditReply, Fail> {
+        append(
+            alloc,
+            &mut self.book,
+            self.shape,
+            text,
+            tick as u64,
+            entries,
+        )
+    }
+
+    /// Corrects the row named `a`, so many times.
+    fn correct(&mut self, alloc: Global, times: u64) -> Result<(), Fail> {
+        correct(alloc, &mut self.book, self.shape, times)
+    }
+
+    /// A look at the signature of some seconds, settled after so many corrections where it misses nodes.
+    fn ask(
+        &mut self,
+        alloc: Global,
+        from: u8,
+        seconds: u8,
+        version: Option<u64>,
+        times: u64,
+    ) -> Result<Answer, Fail> {
+        let from = from as u64 * SECOND;
+        let to = from + seconds as u64 * SECOND;
+        let q = sig(self.shape, from, to, version);
+        ask(alloc, &mut self.book, self.shape, q, times)
+    }
+
+    /// The reply for the signature of one second, and how many nodes were kept where it missed some.
+    fn second(
+        &mut self,
+        alloc: Global,
+        at: u8,
+        version: Option<u64>,
+    ) -> Result<(LookReply, Option<u64>), Fail> {
+        let answer = self.ask(alloc, at, 1, version, 0)?;
+        Ok((answer.reply, answer.kept))
+    }
+
+    /// The reply for second 1 where no rows have an answer.
+    fn allowing(
+        &mut self,
+        alloc: Global,
+        version: Option<u64>,
+        pair: bool,
+    ) -> Result<LookReply, Fail> {
+        let q = Query {
+            kind: Kind::Log,
+            from: SECOND,
+            to: 2 * SECOND,
+            r: 0,
+            version,
+            allowed: if pair {
+                Allowed::Pair(1, 2)
+            } else {
+                Allowed::Level(2)
+            },
+        };
+        Ok(ask(alloc, &mut self.book, self.shape, q, 0)?.reply)
+    }
 }
 
 fn levels_are(rt: &impl Abort, sig: &Sig, expected: &[&[i128]]) {
@@ -256,12 +332,10 @@ fn levels_are(rt: &impl Abort, sig: &Sig, expected: &[&[i128]]) {
 #[test]
 fn kept_node_is_found(rt: HostRuntime) -> Result<(), Fail> {
     let alloc = rt.alloc();
-    let shape = Shape::new(2, 2)?;
-    let mut book = Book::new(alloc, shape, Capacity::usual(), 2)?;
-    append(alloc, &mut book, shape, "a", 0, &[2, 3])?;
+    let mut trial = Trial::new(alloc, Shape::new(2, 2)?, Capacity::usual())?;
+    trial.append(alloc, "a", 0, &[2, 3])?;
     for (hits, misses, kept) in [(0, 1, Some(1)), (1, 0, None)] {
-        let q = sig(shape, 0, SECOND, None);
-        let answer = ask(alloc, &mut book, shape, q, 0)?;
+        let answer = trial.ask(alloc, 0, 1, None, 0)?;
         assert_eq!(rt; answer.reply, found(1, hits, misses, misses));
         assert_eq!(rt; answer.kept, kept);
         let sig = answer.sig.ok_or("no signature")?;
@@ -273,12 +347,10 @@ fn kept_node_is_found(rt: HostRuntime) -> Result<(), Fail> {
 #[test]
 fn nodes_of_old_looks(rt: HostRuntime) -> Result<(), Fail> {
     let alloc = rt.alloc();
-    let shape = Shape::new(1, 1)?;
     for (times, kept) in [(0, 1), (1, 1), (64, 1), (65, 0)] {
-        let mut book = Book::new(alloc, shape, Capacity::usual(), 2)?;
-        append(alloc, &mut book, shape, "a", 0, &[5])?;
-        let q = sig(shape, 0, SECOND, None);
-        let answer = ask(alloc, &mut book, shape, q, times)?;
+        let mut trial = Trial::new(alloc, Shape::new(1, 1)?, Capacity::usual())?;
+        trial.append(alloc, "a", 0, &[5])?;
+        let answer = trial.ask(alloc, 0, 1, None, times)?;
         assert_eq!(rt; answer.reply, found(1, 0, 1, 1));
         assert_eq!(rt; answer.kept, Some(kept), "after {times}");
     }
@@ -288,14 +360,13 @@ fn nodes_of_old_looks(rt: HostRuntime) -> Result<(), Fail> {
 #[test]
 fn pairs_go_after_64_versions(rt: HostRuntime) -> Result<(), Fail> {
     let alloc = rt.alloc();
-    let shape = Shape::new(1, 1)?;
     for (times, hits, misses, kept) in [(64, 1, 0, None), (65, 0, 1, Some(0))] {
-        let mut book = Book::new(alloc, shape, Capacity::usual(), 2)?;
-        append(alloc, &mut book, shape, "a", 0, &[5])?;
-        second(alloc, &mut book, shape, 0, None)?;
-        correct(alloc, &mut book, shape, times)?;
+        let mut trial = Trial::new(alloc, Shape::new(1, 1)?, Capacity::usual())?;
+        trial.append(alloc, "a", 0, &[5])?;
+        trial.second(alloc, 0, None)?;
+        trial.correct(alloc, times)?;
         for _look in 0..2 {
-            let reply = second(alloc, &mut book, shape, 0, Some(1))?;
+            let reply = trial.second(alloc, 0, Some(1))?;
             assert_eq!(rt;
                 reply,
                 (found(1, hits, misses, misses), kept),
@@ -309,13 +380,12 @@ fn pairs_go_after_64_versions(rt: HostRuntime) -> Result<(), Fail> {
 #[test]
 fn last_pair_goes_at_the_capacity(rt: HostRuntime) -> Result<(), Fail> {
     let alloc = rt.alloc();
-    let shape = Shape::new(1, 1)?;
     for (nodes, hits, misses) in [(1, 0, 1), (2, 1, 0)] {
-        let mut book = Book::new(alloc, shape, capacity(nodes)?, 2)?;
-        append(alloc, &mut book, shape, "a", 0, &[5])?;
-        append(alloc, &mut book, shape, "b", SECOND, &[7])?;
+        let mut trial = Trial::new(alloc, Shape::new(1, 1)?, capacity(nodes)?)?;
+        trial.append(alloc, "a", 0, &[5])?;
+        trial.append(alloc, "b", 65536, &[7])?;
         for (at, hits, misses) in [(0, 0, 1), (1, 0, 1), (0, hits, misses)] {
-            let reply = second(alloc, &mut book, shape, at, None)?;
+            let reply = trial.second(alloc, at, None)?;
             assert_eq!(rt;
                 reply.0,
                 found(2, hits, misses, misses),
@@ -326,48 +396,22 @@ fn last_pair_goes_at_the_capacity(rt: HostRuntime) -> Result<(), Fail> {
     Ok(())
 }
 
-/// The reply for second 1 where no rows have an answer.
-fn allowing(
-    alloc: Global,
-    book: &mut Book,
-    shape: Shape,
-    version: Option<u64>,
-    pair: bool,
-) -> Result<LookReply, Fail>
-    requires sessions { book.old.sessions ≡ 2 }
-    requires extent { book.old.extent ≡ shape }
-    ensures sessions { book.new.sessions ≡ book.old.sessions }
-    ensures extent { book.new.extent ≡ book.old.extent }
-{
-    let q = Query {
-        kind: Kind::Log,
-        from: SECOND,
-        to: 2 * SECOND,
-        r: 0,
-        version,
-        allowed: if pair {
-            Allowed::Pair(1, 2)
-        } else {
-            Allowed::Level(2)
-        },
-    };
-    Ok(ask(alloc, book, shape, q, 0)?.reply)
-}
-
 /// Seconds 1 and 3 were looked at, in this order; a refused look at second 1 and then second 4 follow.
 #[test]
 fn refused_looks_move_no_pair(rt: HostRuntime) -> Result<(), Fail> {
     let alloc = rt.alloc();
-    let shape = Shape::new(1, 8)?;
-    let mut book = Book::new(alloc, shape, capacity(2)?, 2)?;
-    append(alloc, &mut book, shape, "a", SECOND, &[5])?;
-    append(alloc, &mut book, shape, "b", 2 * SECOND, &[60097])?;
-    append(alloc, &mut book, shape, "c", 3 * SECOND, &[7])?;
-    append(alloc, &mut book, shape, "d", 4 * SECOND, &[8])?;
-    second(alloc, &mut book, shape, 1, None)?;
-    second(alloc, &mut book, shape, 3, None)?;
-    let q = sig(shape, SECOND, 3 * SECOND, None);
-    let answer = ask(alloc, &mut book, shape, q, 0)?;
+    let mut trial = Trial::new(alloc, Shape::new(1, 8)?, capacity(2)?)?;
+    for (text, tick, entry) in [
+        ("a", 65536, 5),
+        ("b", 131_072, 60097),
+        ("c", 196_608, 7),
+        ("d", 262_144, 8),
+    ] {
+        trial.append(alloc, text, tick, &[entry])?;
+    }
+    trial.second(alloc, 1, None)?;
+    trial.second(alloc, 3, None)?;
+    let answer = trial.ask(alloc, 1, 2, None, 0)?;
     assert_eq!(rt; answer.reply, LookReply::Overflow(60102));
     for (pair, version, reply) in [
         (true, None, LookReply::Pair(1, 2)),
@@ -375,10 +419,10 @@ fn refused_looks_move_no_pair(rt: HostRuntime) -> Result<(), Fail> {
         (true, Some(5), LookReply::NoVersion(4)),
         (false, Some(5), LookReply::NoVersion(4)),
     ] {
-        assert_eq!(rt; allowing(alloc, &mut book, shape, version, pair)?, reply);
+        assert_eq!(rt; trial.allowing(alloc, version, pair)?, reply);
     }
     for (at, hits, misses) in [(4, 0, 1), (3, 1, 0), (1, 0, 1)] {
-        let reply = second(alloc, &mut book, shape, at, None)?;
+        let reply = trial.second(alloc, at, None)?;
         assert_eq!(rt; reply.0, found(4, hits, misses, misses), "at {at}");
     }
     Ok(())
@@ -396,14 +440,13 @@ fn told(step: &Step) -> (u32, Option<EditReply>, Option<LookReply>, Option<u64>)
 #[test]
 fn history_has_each_reply(rt: HostRuntime) -> Result<(), Fail> {
     let alloc = rt.alloc();
-    let shape = Shape::new(1, 1)?;
-    let mut book = Book::new(alloc, shape, Capacity::usual(), 2)?;
-    correct(alloc, &mut book, shape, 1)?;
-    append(alloc, &mut book, shape, "a", 0, &[5])?;
-    append(alloc, &mut book, shape, "a", 9, &[5])?;
-    second(alloc, &mut book, shape, 0, Some(2))?;
-    second(alloc, &mut book, shape, 0, None)?;
-    second(alloc, &mut book, shape, 0, Some(0))?;
+    let mut trial = Trial::new(alloc, Shape::new(1, 1)?, Capacity::usual())?;
+    trial.correct(alloc, 1)?;
+    trial.append(alloc, "a", 0, &[5])?;
+    trial.append(alloc, "a", 9, &[5])?;
+    for version in [Some(2), None, Some(0)] {
+        trial.second(alloc, 0, version)?;
+    }
     let expected = [
         (2, Some(EditReply::NoRow(0)), None, None),
         (2, Some(EditReply::Done(1)), None, None),
@@ -414,21 +457,21 @@ fn history_has_each_reply(rt: HostRuntime) -> Result<(), Fail> {
         (1, None, Some(found(0, 0, 0, 0)), None),
     ];
     let mut replies = Vec::new(alloc);
-    for step in book.history() {
+    for step in trial.book.history() {
         replies.push(told(step))?;
     }
     assert_eq!(rt; replies.as_slice(), expected.as_slice());
-    assert_eq!(rt; (book.version(), book.spent()), (1, false));
-    assert_eq!(rt; (book.pending(1), book.pending(2)), (false, false));
+    assert_eq!(rt; (trial.book.version(), trial.book.spent()), (1, false));
+    assert_eq!(rt;
+        (trial.book.pending(1), trial.book.pending(2)),
+        (false, false)
+    );
     Ok(())
 }
 
 /// Nine rows of one second, at these sixteenths of it.
-fn nine_rows(alloc: Global, shape: Shape) -> Result<Book, Fail>
-    ensures sessions { IfOk result (λ book. book.sessions ≡ 2) }
-    ensures extent { IfOk result (λ book. book.extent ≡ shape) }
-{
-    let mut book = Book::new(alloc, shape, Capacity::usual(), 2)?;
+fn nine_rows(alloc: Global) -> Result<Trial, Fail> {
+    let mut trial = Trial::new(alloc, Shape::new(1, 1)?, Capacity::usual())?;
     for (text, at) in [
         ("b", 0u8),
         ("c", 1),
@@ -440,20 +483,19 @@ fn nine_rows(alloc: Global, shape: Shape) -> Result<Book, Fail>
         ("h", 10),
         ("i", 11),
     ] {
-        append(alloc, &mut book, shape, text, 4096 * at as u64, &[1])?;
+        trial.append(alloc, text, 4096 * at as u32, &[1])?;
     }
-    Ok(book)
+    Ok(trial)
 }
 
 #[test]
 fn half_of_nine_rows_is_found(rt: HostRuntime) -> Result<(), Fail> {
     let alloc = rt.alloc();
-    let shape = Shape::new(1, 1)?;
-    let mut book = nine_rows(alloc, shape)?;
-    let reply = second(alloc, &mut book, shape, 0, None)?;
+    let mut trial = nine_rows(alloc)?;
+    let reply = trial.second(alloc, 0, None)?;
     assert_eq!(rt; reply, (found(9, 0, 3, 9), Some(3)));
-    correct(alloc, &mut book, shape, 1)?;
-    let reply = second(alloc, &mut book, shape, 0, None)?;
+    trial.correct(alloc, 1)?;
+    let reply = trial.second(alloc, 0, None)?;
     assert_eq!(rt; reply, (found(10, 1, 2, 4), Some(2)));
     Ok(())
 }
