@@ -21,7 +21,9 @@ use Rattle.session.proofs.TogetherLaws.{all-told, all-legal}
 pub record IsEnd (script : ScriptValue) (first : BookValue) (head : PassView Step) (book : BookValue) (transcripts : List (List Answer)) : Type 0 where
   -- the script has its form
   pub is_script : IsScript script
-  -- the book began with as many sessions as the script has
+  -- the book began with the script's shape
+  pub extent : first.extent ≡ script.extent
+  -- and with as many sessions as the script has
   pub sessions : first.sessions ≡ length script.sessions
   -- the first pass has the frame of that book
   pub frame : head.frame ≡ frame_of first
@@ -48,6 +50,9 @@ module _ (script : ScriptValue) (first : BookValue) (head : PassView Step) (book
   pub end-capacity : book.capacity ≡ first.capacity
   end-capacity = ap (λ (f : List ℕ). (book_of f []).capacity) same-frame
 
+  end-extent : book.extent ≡ script.extent
+  end-extent = ap (λ (f : List ℕ). (book_of f []).extent) same-frame ∙ is.extent
+
   end-sessions : book.sessions ≡ length script.sessions
   end-sessions = ap (λ (f : List ℕ). (book_of f []).sessions) same-frame ∙ is.sessions
 
@@ -56,7 +61,7 @@ module _ (script : ScriptValue) (first : BookValue) (head : PassView Step) (book
 
   -- the book's steps are those of the run of the script, with these answers
   pub end-told : IsTold script book transcripts
-  end-told = all-told script book is.is_book transcripts is.count end-sessions each
+  end-told = all-told script book is.is_book transcripts is.count end-sessions each end-extent
 
   -- their order is legal
   pub end-legal : illegal_place book.capacity script (order_of book) ≡ None

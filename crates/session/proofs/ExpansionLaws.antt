@@ -8,11 +8,12 @@ use Rattle.definitions.specs.Rows.{RowValue, moves_of}
 use Rattle.dynkin_map.proofs.LogarithmsInCoordinates.{logarithm-expands}
 use Rattle.script_reader.specs.declared.command.Kind.{Kind}
 use Rattle.script_reader.specs.declared.command.Kind.TheVariants as kinds
+use Rattle.script_reader.specs.Script.{ScriptValue, IsScript}
 use Rattle.book.specs.declared.query.Query.{Query}
 use Rattle.book.specs.declared.step.LookReply.{LookReply}
 use Rattle.book.specs.Play.{State, Request, Editing, Looking, Settling, found, look_refusal, looked_rows}
-use Rattle.session.specs.Play.{Due, Logged, Run, valued, unless, looked, next_request, stepped}
-use Rattle.session.specs.Logarithms.{ExpandsTo, IsExpanded, AreExpanded}
+use Rattle.session.specs.Play.{Due, Logged, Run, valued, unless, looked, next_request, stepped, opening_run}
+use Rattle.session.specs.Logarithms.{ExpandsTo, IsExpanded, AreExpanded, ExpandIn}
 
 -- what holds of an answer, whether or not it is a logarithm
 abbrev Expands : Extent → (List ℕ → ℤ) → Due → Type 0
@@ -39,9 +40,13 @@ request-expands extent state (Some (Looking session q)) small = λ reply terms i
     subst (Expands extent (logarithm (signature (moves_of (looked_rows state.edits q))))) is (looked-expands extent state q small)
 
 -- each logarithm that is due in an order expands to the logarithm of its rows, for shapes whose words have at most 8 letters
-pub order-expands : (capacity : ℕ) (extent : Extent) (order : List ℕ) (run : Run) → extent.depth ≤ 8 → AreExpanded capacity extent order run
+order-expands : (capacity : ℕ) (extent : Extent) (order : List ℕ) (run : Run) → extent.depth ≤ 8 → AreExpanded capacity extent order run
 order-expands capacity extent [] run small = tt
 order-expands capacity extent (session ∷ order) run small = (
   request-expands extent run.state (next_request extent session run) small,
   order-expands capacity extent order (stepped capacity extent session run) small,
 )
+
+-- so it is along every order of a script
+pub expand-in : (script : ScriptValue) → IsScript script → (capacity : ℕ) (order : List ℕ) → ExpandIn capacity script order
+expand-in script is capacity order = order-expands capacity script.extent order (opening_run script) is.shape.within_depth

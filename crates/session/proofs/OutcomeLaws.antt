@@ -41,4 +41,4 @@ module _ (script : ScriptValue) (run : TheRun) (is_run : IsRun script run) where
 
   -- so the book tells the run
   pub run-told : IsTold script run.book run.transcripts.items
-  run-told = record { state = is_run.state; shows = run-shows; members = run-members }
+  run-told = record { extent = is_run.extent; state = is_run.state; shows = run-shows; members = run-members }

@@ -242,8 +242,9 @@ module _ (script : ScriptValue) (book : BookValue) (is_book : IsBook book) (tran
       subst (λ (j : ℕ). All (HasMembers script.extent) (get_or transcripts j [])) place (each (i + 1) here).members
 
   -- the book took the steps of the script's run, and these answers are due in it
-  pub all-told : IsTold script book transcripts
-  all-told = record {
+  pub all-told : book.extent ≡ script.extent → IsTold script book transcripts
+  all-told extent = record {
+    extent = extent;
     state = all-finished.state;
     shows = shows-all script.extent transcripts (run_of script book).transcripts (count ∙ sym all-finished.transcripts) shows-place;
     members = All-from_get_or (All (HasMembers script.extent)) transcripts [] members-place;

@@ -7,6 +7,7 @@ use Rattle.session.specs.declared.answer.Answer.{Answer}
 use Rattle.session.specs.declared.answer.Answer.TheVariants as answers
 use Rattle.session.specs.declared.answer.Outcome.{Outcome}
 use Rattle.script_reader.specs.declared.command.Kind.{Kind}
+use Rattle.versions.specs.Versions.{IsLog}
 use Rattle.book.specs.Play.{refused_by}
 use Rattle.session.specs.Play.{Due, Edited, Valued, Logged, Refused, DueOutcome, allowed_for}
 
@@ -39,7 +40,7 @@ ShowsAll extent _ _ = ⊥
 pub record IsOutcome (extent : Extent) (outcome : Outcome) (due : DueOutcome) : Type 0 where
   pub transcripts : ShowsAll extent outcome.transcripts.items due.transcripts
   pub order : outcome.order.items ≡ due.order
-  pub versions : outcome.versions ≡ due.versions
+  pub edits : outcome.edits.items ≡ due.edits
 
 -- rows of this weight have a value of this kind
 abbrev pub IsAllowed : Extent → Kind → ℕ → Type 0
@@ -54,3 +55,8 @@ HasMembers extent _ = Unit {0}
 -- this holds for all answers of an outcome
 abbrev pub AllHaveMembers : Extent → Outcome → Type 0
 AllHaveMembers extent outcome = All (All (HasMembers extent)) outcome.transcripts.items
+
+-- ---- the accepted edits
+-- the edits of an outcome were accepted in their order
+abbrev pub IsLogOf : Extent → Outcome → Type 0
+IsLogOf extent outcome = IsLog (record { extent = extent; edits = outcome.edits.items })

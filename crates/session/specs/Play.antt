@@ -1,4 +1,4 @@
--- What a script is due in an order of its sessions: the answer to each command, and the versions.
+-- What a script is due in an order of its sessions: the answer to each command, and the accepted edits.
 use Rattle.std.specs.Prelude.{ℕ, zero, suc, ◌-◌, ◌*◌, Bool, if◌then◌else◌, List, [], ◌∷◌, ◌++◌, drop, take, length, fold, sum_by, replicate, slice_index_or, slice_set, Option, Some, None, is_some, ℤ}
 use Rattle.std.specs.List.{find, list_any}
 use Rattle.definitions.specs.Words.{Extent, up_to}
@@ -6,6 +6,7 @@ use Rattle.definitions.specs.Signature.{signature}
 use Rattle.definitions.specs.Logarithm.{logarithm}
 use Rattle.definitions.specs.Rows.{RowValue, moves_of}
 use Rattle.versions.specs.declared.edit.EditReply.{EditReply}
+use Rattle.versions.specs.declared.log.Accepted.{Accepted}
 use Rattle.versions.specs.Versions.{edit_reply}
 use Rattle.definitions.specs.Hall.{hall_list}
 use Rattle.lie_bracket.specs.declared.term.Term.{Term}
@@ -173,14 +174,14 @@ abbrev pub round_order : ℕ → ScriptValue → List ℕ
 round_order capacity script = turns_from capacity (most_steps script) script.extent 0 (opening_run script)
 
 -- ---- outcomes
--- the answers to each session's commands, the sessions of the steps, and the last version
+-- the answers to each session's commands, the sessions of the steps, and the accepted edits, one for each version from 1
 pub record DueOutcome : Type 0 where
   pub transcripts : List (List Due)
   pub order : List ℕ
-  pub versions : ℕ
+  pub edits : List Accepted
 
 -- what is due to a script in an order
 abbrev pub due_outcome : ℕ → ScriptValue → List ℕ → DueOutcome
 due_outcome capacity script order =
     let run : Run = run_in capacity script.extent order (opening_run script) in
-    record { transcripts = run.transcripts; order = order; versions = length run.state.edits }
+    record { transcripts = run.transcripts; order = order; edits = run.state.edits }

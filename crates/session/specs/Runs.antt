@@ -119,8 +119,9 @@ pub record IsLastLook (history : List Step) : Type 0 where
   pub reply : LookReply
   pub last : history ≡ before ++ Looked session query reply ∷ []
 
--- the steps of the book are those of the script's run in their order, and these answers are due in it
+-- the book has the script's shape, its steps are those of the script's run in their order, and these answers are due in it
 pub record IsTold (script : ScriptValue) (book : BookValue) (transcripts : List (List Answer)) : Type 0 where
+  pub extent : book.extent ≡ script.extent
   pub state : (run_of script book).state ≡ state_of book
   pub shows : ShowsAll script.extent transcripts (run_of script book).transcripts
   pub members : All (All (HasMembers script.extent)) transcripts

@@ -5,7 +5,7 @@ use lie_bracket::LieElement;
 use scaled_tensor::Tensor;
 use std::alloc::Global;
 use std::marker::Model;
-use versions::EditReply;
+use versions::{Accepted, EditReply};
 use words::Memory;
 
 /// The answer to a command.
@@ -76,6 +76,6 @@ pub struct Outcome {
     pub transcripts: Vec<Transcript>,
     /// The session of each step, in the order in which they were taken.
     pub order: Vec<u32>,
-    /// The last version.
-    pub versions: u64,
+    /// The accepted edits, one for each version from 1.
+    pub edits: Vec<Accepted>,
 }

@@ -18,4 +18,4 @@ pub use book::LookReply;
 pub use orders::{ReplayFault, replay, replay_round};
 pub use solve::{Gate, Through};
 pub use threads::run_all;
-pub use versions::EditReply;
+pub use versions::{Accepted, EditReply};

@@ -3,7 +3,8 @@ ghost use Rattle.std.specs.Prelude.{◌≡◌, ◌+◌, ◌≤◌, ℕ, None, Er
 ghost use Rattle.std.specs.List.{find};
 ghost use Rattle.definitions.specs.Words.{up_to};
 ghost use Rattle.session.specs.Play.{has_next as has_request, due_outcome, illegal_place, round_order, opening_run, next_turn as due_turn, most_steps as most_due_steps};
-ghost use Rattle.session.specs.Answers.{IsOutcome, AllHaveMembers};
+ghost use Rattle.session.specs.Answers.{IsOutcome, IsLogOf, AllHaveMembers};
+ghost use Rattle.session.specs.Logarithms.{ExpandIn};
 ghost use Rattle.session.specs.Runs.{IsRun, IsTold, order_of, run_of, units_in};
 
 use crate::answer::{Outcome, Transcript};
@@ -39,12 +40,13 @@ impl From<Memory> for ReplayFault {
 pub fn outcome_of(
     alloc: Global,
     script: &Script,
-    book: &Book,
+    book: Book,
     transcripts: Vec<Transcript>,
 ) -> Result<Outcome, Memory>
-    requires { IsTold script.now book.now transcripts.items }
-    ensures outcome { IfOk result (λ outcome. IsOutcome script.now.extent outcome (due_outcome book.now.capacity script.now (order_of book.now))) }
-    ensures order { IfOk result (λ outcome. outcome.order.items ≡ order_of book.now) }
+    requires { IsTold script.now book transcripts.items }
+    ensures outcome { IfOk result (λ outcome. IsOutcome script.now.extent outcome (due_outcome book.capacity script.now (order_of book))) }
+    ensures order { IfOk result (λ outcome. outcome.order.items ≡ order_of book) }
+    ensures log { IfOk result (IsLogOf script.now.extent) }
     ensures members { IfOk result (AllHaveMembers script.now.extent) }
 {
     let _shape = script.shape();
@@ -52,10 +54,11 @@ pub fn outcome_of(
     for taken in book.history() {
         order.push(taken.session())?;
     }
+    let edits = book.into_edits();
     Ok(Outcome {
-        versions: book.version(),
         transcripts,
         order,
+        edits,
     })
 }
 
@@ -63,6 +66,7 @@ pub fn outcome_of(
 fn outcome_of_run(alloc: Global, script: &Script, run: Run) -> Result<Outcome, Memory>
     requires { IsRun script.now run }
     ensures outcome { IfOk result (λ outcome. IsOutcome script.now.extent outcome (due_outcome run.book.capacity script.now (order_of run.book))) }
+    ensures log { IfOk result (IsLogOf script.now.extent) }
     ensures members { IfOk result (AllHaveMembers script.now.extent) }
 {
     let Run {
@@ -70,7 +74,7 @@ fn outcome_of_run(alloc: Global, script: &Script, run: Run) -> Result<Outcome, M
         transcripts,
         ..
     } = run;
-    outcome_of(alloc, script, &book, transcripts)
+    outcome_of(alloc, script, book, transcripts)
 }
 
 /// The first session after the one and up to the other that has anything to do.
@@ -100,8 +104,9 @@ fn next_turn(run: &Run, script: &Script, last: u32) -> Option<u32>
     first_with(run, script, 0, last)
 }
 
-/// The outcome of a script whose sessions take their steps in this order, refused exactly as `ReplayFault` says. The cache keeps so many
-/// nodes at most. Takes one unit for each visited node and each row that is exponentiated, and never more than the whole order has.
+/// The outcome of a script whose sessions take their steps in this order, refused exactly as `ReplayFault` says. Its edits are those that
+/// were accepted, and its coordinates, expanded by brackets, are exactly the logarithms. The cache keeps so many nodes at most. Takes one
+/// unit for each visited node and each row that is exponentiated, and never more than the whole order has.
 pub fn replay<L: Ledger>(
     alloc: Global,
     script: &Script,
@@ -111,7 +116,9 @@ pub fn replay<L: Ledger>(
 ) -> Result<Outcome, ReplayFault>
     ensures legal { OnOk result (illegal_place capacity script.now order.now ≡ None) }
     ensures outcome { IfOk result (λ outcome. IsOutcome script.now.extent outcome (due_outcome capacity script.now order.now)) }
+    ensures log { IfOk result (IsLogOf script.now.extent) }
     ensures members { IfOk result (AllHaveMembers script.now.extent) }
+    ensures expands { OnOk result (ExpandIn capacity script.now order.now) }
     ensures illegal { (place : ℕ) → result ≡ Err (ReplayFault.Order place) → illegal_place capacity script.now order.now ≡ Some place }
     ensures ticks { OnOk result (steps.new ≡ steps.old + units_in capacity script.now.extent order.now (opening_run script.now)) }
     ensures at_most { (steps.old ≤ steps.new) × (steps.new ≤ steps.old + units_in capacity script.now.extent order.now (opening_run script.now)) }
@@ -141,8 +148,8 @@ fn most_steps(script: &Script) -> u64
     2 * commands
 }
 
-/// The outcome of a script whose sessions take one step each in turn. The cache keeps so many nodes at most. Takes one
-/// unit for each visited node and each row that is exponentiated, and never more than the whole round has.
+/// The outcome of a script whose sessions take one step each in turn, as `replay` gives it. The cache keeps so many nodes at most.
+/// Takes one unit for each visited node and each row that is exponentiated, and never more than the whole round has.
 pub fn replay_round<L: Ledger>(
     alloc: Global,
     script: &Script,
@@ -150,7 +157,9 @@ pub fn replay_round<L: Ledger>(
     steps: &mut Steps<L>,
 ) -> Result<Outcome, Memory>
     ensures outcome { IfOk result (λ outcome. IsOutcome script.now.extent outcome (due_outcome capacity script.now (round_order capacity script.now))) }
+    ensures log { IfOk result (IsLogOf script.now.extent) }
     ensures members { IfOk result (AllHaveMembers script.now.extent) }
+    ensures expands { OnOk result (ExpandIn capacity script.now (round_order capacity script.now)) }
     ensures ticks { OnOk result (steps.new ≡ steps.old + units_in capacity script.now.extent (round_order capacity script.now) (opening_run script.now)) }
     ensures at_most { (steps.old ≤ steps.new) × (steps.new ≤ steps.old + units_in capacity script.now.extent (round_order capacity script.now) (opening_run script.now)) }
 {

@@ -3,7 +3,8 @@ ghost use Rattle.std.specs.Prelude.{◌≡◌, ◌+◌, ◌<◌, ◌≤◌, [], 
 ghost use Rattle.turnstile.specs.Passes.{view};
 ghost use Rattle.turnstile.specs.Views.{new_pass};
 ghost use Rattle.session.specs.Play.{due_outcome, illegal_place};
-ghost use Rattle.session.specs.Answers.{IsOutcome, AllHaveMembers};
+ghost use Rattle.session.specs.Answers.{IsOutcome, IsLogOf, AllHaveMembers};
+ghost use Rattle.session.specs.Logarithms.{ExpandIn};
 ghost use Rattle.session.specs.Holds.{frame_of};
 ghost use Rattle.session.specs.Serving.{IsOpening};
 ghost use Rattle.session.specs.Turns.{IsIdle};
@@ -154,7 +155,8 @@ fn join_all(
 /// The outcome of a script whose sessions run on threads, each step in a hold of its own. The cache keeps so many nodes at most.
 /// The gate is called between each look that has a work and its solution, without the turn.
 ///
-/// The order of the steps is legal, and all is as on one thread that takes them in this order.
+/// The order of the steps is legal, and all is as on one thread that takes them in this order: the edits are those that were accepted, and
+/// the coordinates, expanded by brackets, are exactly the logarithms.
 pub fn run_all<R: Threads + Wait + Sync, G: Gate>(
     rt: &R,
     alloc: Global,
@@ -164,7 +166,9 @@ pub fn run_all<R: Threads + Wait + Sync, G: Gate>(
 ) -> Result<Outcome, Memory>
     ensures legal { IfOk result (λ outcome. illegal_place capacity script.now outcome.order.items ≡ None) }
     ensures outcome { IfOk result (λ outcome. IsOutcome script.now.extent outcome (due_outcome capacity script.now outcome.order.items)) }
+    ensures log { IfOk result (IsLogOf script.now.extent) }
     ensures members { IfOk result (AllHaveMembers script.now.extent) }
+    ensures expands { IfOk result (λ outcome. ExpandIn capacity script.now outcome.order.items) }
 {
     let sessions = script.sessions().len() as u32;
     let book = Book::new(alloc, script.shape(), capacity, sessions)?;
@@ -180,5 +184,5 @@ pub fn run_all<R: Threads + Wait + Sync, G: Gate>(
     if book.spent() {
         return Err(Memory);
     }
-    outcome_of(alloc, script, &book, transcripts)
+    outcome_of(alloc, script, book, transcripts)
 }

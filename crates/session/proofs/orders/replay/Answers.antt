@@ -4,6 +4,7 @@ use Rattle.session.specs.Play.{next_turn}
 use Rattle.session.specs.Answers.{IsOutcome}
 use Rattle.session.specs.Runs.{run_of}
 use Rattle.session.proofs.OrderLaws.{replayed-none, replayed-more, replay-stops, replay-lacks, replay-ends, replayed-order, units-on, no-units, all-units, at-most, at-most_with, replayed-units, replayed-within, whole-outcome}
+use Rattle.session.proofs.ExpansionLaws.{expand-in}
 use Rattle.session.proofs.orders.replay.Goals as goal
 
 pub loop-before-init : goal.loop-before-init
@@ -67,6 +68,9 @@ returns-clause-outcome g c =
     let book = c.loop-before.run.book in
     whole-outcome c.args.capacity c.args.script.now book order before.capacity_is (replayed-order c.args.capacity c.args.script.now book order c.loop-before.before c.loop-before-test.false before)
     (λ due. IsOutcome c.args.script.now.extent c.in_ok-outcome_of_run.field-0 due) c.in_ok-outcome_of_run.ensures.outcome
+
+pub returns-clause-expands : goal.returns-clause-expands
+returns-clause-expands g c = expand-in c.args.script.now c.shape.ensures.script c.args.capacity c.args.order.now
 
 pub returns-clause-ticks : goal.returns-clause-ticks
 returns-clause-ticks g c =

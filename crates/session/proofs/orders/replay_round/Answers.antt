@@ -4,6 +4,7 @@ use Rattle.session.specs.Play.{most_steps, next_turn, round_order}
 use Rattle.session.specs.Answers.{IsOutcome}
 use Rattle.session.specs.Runs.{run_of, order_of}
 use Rattle.session.proofs.TurnLaws.{turn-is}
+use Rattle.session.proofs.ExpansionLaws.{expand-in}
 use Rattle.session.proofs.OrderLaws.{round-none, round-more, round-stops, round-ends, units-on, no-units, all-units, at-most, at-most_with, round-units, round-within, whole-outcome}
 use Rattle.session.proofs.orders.replay_round.Goals as goal
 use Rattle.session.proofs.orders.replay_round.Goals.{else-loop-step-test, then-loop-step-test+in_default}
@@ -63,7 +64,9 @@ returns g c =
     let outcome = c.outcome_of_run.ensures in
     record {
       outcome = whole-outcome c.args.capacity script book due round.capacity_is taken (λ due. IfOk c.outcome_of_run.result (λ outcome. IsOutcome script.extent outcome due)) outcome.outcome;
+      log = outcome.log;
       members = outcome.members;
+      expands = on_ok c.outcome_of_run.result (expand-in script c.shape.ensures.script c.args.capacity due);
       ticks = on_ok c.outcome_of_run.result (c.loop-step.invariant.ticks ∙ ap (λ (n : ℕ). c.args.steps.now + n) (all-units c.args.capacity script book due round.capacity_is taken));
       at_most =
           at-most c.args.steps.now c.loop-step.steps _ _ c.loop-step.invariant.ticks

@@ -12,10 +12,12 @@ use Rattle.book.specs.Books.{BookValue, IsBook, IsSession}
 use Rattle.session.specs.declared.answer.Outcome.{Outcome}
 use Rattle.session.specs.declared.threads.Worked.{Worked}
 use Rattle.session.specs.Play.{illegal_place}
+use Rattle.session.specs.Logarithms.{ExpandIn}
 use Rattle.session.specs.Runs.{order_of}
 use Rattle.session.specs.Holds.{frame_of}
 use Rattle.session.specs.Threads.{IsNew, AreReadyPasses, HasWorked, HaveWorked}
 use Rattle.session.proofs.ThreadLaws.{some-item, new-at, worked-each, opening-pass, own-outcome}
+use Rattle.session.proofs.ExpansionLaws.{expand-in}
 use Rattle.session.proofs.EndLaws.{IsEnd, end-capacity, end-told, end-legal}
 use Rattle.session.proofs.threads.run_all.Given as given
 use Rattle.session.proofs.threads.run_all.Goals as goal
@@ -82,9 +84,11 @@ ends : (g : given.Over) (c : In_ok-transcripts g) (book : BookValue) → IsBook 
     → IsEnd c.args.script.now c.in_ok-book.book (view c.join_all.new.head) book c.in_ok-transcripts.transcripts.items
 ends g c book is_book unspent framed seen own =
     let passes : length c.in_ok-passes.passes.items ≡ length c.args.script.now.sessions = search rules in
+    let extent : c.in_ok-book.book.extent ≡ c.args.script.now.extent = search rules in
     let sessions : c.in_ok-book.book.sessions ≡ length c.args.script.now.sessions = search rules in
     record {
       is_script = c.sessions.ensures.script;
+      extent = extent;
       sessions = sessions;
       frame =
           c.in_ok-transcripts.ensures.frame ∙ ap (λ (v : PassView Step). v.frame) c.in_ok-passes.ensures.same ∙ ap (λ (v : PassView Step). v.frame) c.in-Ok.ensures.first ∙ ap frame_of c.of.ensures;
@@ -127,3 +131,9 @@ returns-clause-outcome g c =
     let capacity : book.capacity ≡ c.args.capacity =
     end-capacity script c.in_ok-book.book (view c.join_all.new.head) book c.in_ok-transcripts.transcripts.items end ∙ ap (λ (b : BookValue). b.capacity) c.in_ok-book.ensures in
     own-outcome c.outcome_of.result script book c.args.capacity capacity c.outcome_of.ensures.outcome c.outcome_of.ensures.order
+
+pub returns-clause-expands : goal.returns-clause-expands
+returns-clause-expands g c =
+    let script = c.args.script.now in
+    IfOk-weaker c.outcome_of.result (λ (outcome : Outcome). outcome.order.items ≡ order_of c.finish-book.result.book) (λ (outcome : Outcome). ExpandIn c.args.capacity script outcome.order.items)
+    (λ outcome order. expand-in script c.sessions.ensures.script c.args.capacity outcome.order.items) c.outcome_of.ensures.order
