@@ -8,6 +8,7 @@ use Rattle.definitions.specs.Words.{Extent, up_to}
 use Rattle.definitions.specs.Moves.{IsMove, plain}
 use Rattle.script_reader.specs.declared.command.Command.{Command}
 use Rattle.script_reader.specs.Script.{IsCommand, IsScript}
+use Rattle.watches.specs.Watches.{IsInterval}
 use Rattle.answers.specs.Generator.{draw, entries_from, command_from, command_at, numbers_of, generated}
 
 -- the shape of the generated script: width 2, depth 4
@@ -112,4 +113,6 @@ generated-within n h =
       few_sessions = omega arith;
       few_commands = omega (arith, first, second, third, fourth);
       commands = All-map (All (IsCommand generated_extent)) (commands_to n n) (0 ∷ 1 ∷ 2 ∷ 3 ∷ []) (λ k d l. commands-within n (get_or (0 ∷ 1 ∷ 2 ∷ 3 ∷ []) k d) small);
+      few_watches = omega arith;
+      watches = All-nil IsInterval;
     }

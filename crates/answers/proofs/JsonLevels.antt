@@ -5,16 +5,15 @@ use Rattle.std.specs.Fmt.{signed_decimal}
 use Rattle.std.proofs.lemmas.List.{map-append}
 use Rattle.definitions.specs.Words.{Extent, IsWord, up_to, factorial}
 use Rattle.scaled_tensor.specs.Tensors.{TensorValue, coefficient}
-use Rattle.lie_bracket.specs.declared.term.Term.{Term}
 use Rattle.serde_json.specs.Data.{Data, string}
 use Rattle.serde_json.specs.View.{view}
 use Rattle.serde_json.specs.declared.value.Value.{Value}
 use Rattle.book.specs.declared.step.LookReply.{LookReply}
-use Rattle.session.specs.declared.answer.Answer.TheVariants.{Sig, Log}
+use Rattle.session.specs.declared.answer.Answer.TheVariants.{Sig}
 use Rattle.session.specs.Play.{Due, Edited, Valued, Logged, Refused}
 use Rattle.session.specs.Answers.{HasSeries, Shows}
 use Rattle.answers.specs.Text.{word_text}
-use Rattle.answers.specs.Json.{list, term_json, level_json, signature_level, signature_levels, logarithm_levels, look_json, answer_json}
+use Rattle.answers.specs.Json.{list, term_json, level_json, signature_level, signature_levels, look_json, answer_json}
 use Rattle.answers.proofs.LevelTexts.{words-same}
 
 -- one value more

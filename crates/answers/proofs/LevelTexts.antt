@@ -1,9 +1,8 @@
 -- Texts of words and levels.
 use Rattle.std.proofs.Common.{add-one, ◌≡◌, ◌≢◌, ℕ, zero, suc, ◌+◌, ◌<◌, ◌≤◌, ◌^◌, refl, sym, ap, ap₂, ◌∙◌, arith, ℤ, pos, negsuc, List, [], ◌∷◌, ◌++◌, length, take, get_or}
-use Rattle.std.specs.Prelude.{map, flat_map, codes, All}
-use Rattle.std.specs.List.{join_with_byte}
+use Rattle.std.specs.Prelude.{flat_map, codes, All}
 use Rattle.std.specs.Fmt.{decimal, signed_decimal}
-use Rattle.std.proofs.lemmas.List.{append-nil, take_more, flat_map_more}
+use Rattle.std.proofs.lemmas.List.{take_more, flat_map_more}
 use Rattle.std.proofs.lemmas.List.Concat.{flat_map-append}
 use Rattle.std.proofs.lemmas.List.Elements.{All-head, All-tail, All-from_get_or}
 use Rattle.definitions.specs.Words.{Extent, IsWord, number, up_to, words_of, factorial}
@@ -15,11 +14,6 @@ use Rattle.session.specs.declared.answer.Answer.TheVariants.{Sig, Log}
 use Rattle.session.specs.Play.{Due, Edited, Valued, Logged, Refused}
 use Rattle.session.specs.Answers.{HasSeries, Shows}
 use Rattle.answers.specs.Text.{word_text, term_text, level_text, levels_text, log_levels_text, look_text, answer_text}
-
--- a comma before each letter but the first
-pub letters-joined : (a : ℕ) (word : List ℕ) → join_with_byte 44 (map decimal (a ∷ word)) ≡ decimal a ++ flat_map (λ b. 44 ∷ decimal b) word
-letters-joined a [] = sym (append-nil (decimal a))
-letters-joined a (b ∷ word) = ap (λ rest. decimal a ++ 44 ∷ rest) (letters-joined b word)
 
 -- a coefficient that isn't 0 is printed
 pub term-shown : (name : List ℕ) (value : ℤ) → value ≢ pos 0 → term_text name value ≡ codes " " ++ name ++ codes "=" ++ signed_decimal value

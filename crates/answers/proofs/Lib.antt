@@ -12,3 +12,4 @@ pub mod OrderTold
 pub mod TensorSums
 pub mod TotalLaws
 pub mod TotalSteps
+pub mod WatchLines

@@ -10,13 +10,15 @@ use Rattle.definitions.specs.declared.member.Member.{Member}
 use Rattle.lie_bracket.specs.declared.term.Term.{Term}
 use Rattle.serde_json.specs.Data.{Data, string}
 use Rattle.serde_json.specs.View.{items_of}
-use Rattle.serde_json.specs.Written.{has_float, items_have_float}
+use Rattle.serde_json.specs.Written.{has_float, items_have_float, members_have_float}
 use Rattle.versions.specs.declared.edit.EditReply.TheVariants.{Done, NameTaken, NoRow}
 use Rattle.book.specs.declared.step.LookReply.{LookReply}
 use Rattle.book.specs.declared.step.LookReply.TheVariants.{Found, NoVersion, Pair, Level, Overflow}
+use Rattle.watches.specs.declared.interval.Interval.{Interval}
+use Rattle.watches.specs.Watches.{touching}
 use Rattle.session.specs.Play.{Due, Edited, Valued, Logged, Refused, DueOutcome}
 use Rattle.answers.specs.Text.{word_text}
-use Rattle.answers.specs.Json.{natural, list, term_json, level_json, signature_level, signature_levels, coordinate_json, logarithm_level, logarithm_levels, look_json, answer_json, answers_json, outcome_json}
+use Rattle.answers.specs.Json.{natural, list, term_json, level_json, signature_level, signature_levels, coordinate_json, logarithm_level, logarithm_levels, look_json, answer_json, answers_json, watch_json, watches_member, outcome_json}
 
 abbrev NoFloats : List Data → Type 0
 NoFloats ds = items_have_float (items_of ds) ≡ false
@@ -85,9 +87,15 @@ answers-none : (extent : Extent) (c : ℕ) (dues : List Due) → NoFloats (answe
 answers-none extent c [] = refl
 answers-none extent c (due ∷ dues) = neither (has_float (answer_json extent c due)) _ (answer-none extent c due) (answers-none extent (suc c) dues)
 
+watches-none : (values : List Data) → NoFloats values → members_have_float (watches_member values) ≡ false
+watches-none [] none = refl
+watches-none (value ∷ values) none = neither (items_have_float (items_of (value ∷ values))) false none refl
+
 -- the object of an outcome has no floating-point numbers, whose text the JSON crate says nothing of
-pub outcome-none : (extent : Extent) (outcome : DueOutcome) → has_float (outcome_json extent outcome) ≡ false
-outcome-none extent outcome =
+pub outcome-none : (extent : Extent) (watches : List Interval) (outcome : DueOutcome) → has_float (outcome_json extent watches outcome) ≡ false
+outcome-none extent watches outcome =
     neither (items_have_float (items_of (map natural outcome.order))) _ (none-mapped natural outcome.order (λ n. refl))
-    (neither (items_have_float (items_of (map (λ dues. list (answers_json extent 1 dues)) outcome.transcripts))) false
-    (none-mapped (λ dues. list (answers_json extent 1 dues)) outcome.transcripts (λ dues. answers-none extent 1 dues)) refl)
+    (neither (items_have_float (items_of (map (λ dues. list (answers_json extent 1 dues)) outcome.transcripts))) _
+    (none-mapped (λ dues. list (answers_json extent 1 dues)) outcome.transcripts (λ dues. answers-none extent 1 dues))
+    (watches-none (map (watch_json outcome.edits) watches)
+    (none-mapped (watch_json outcome.edits) watches (λ watch. none-mapped natural (touching watch.from watch.to outcome.edits) (λ n. refl)))))

@@ -25,7 +25,8 @@ each-last R (a ∷ xs) x P give [] h = absurd h
 each-last R (a ∷ xs) x P give (y ∷ ys) h =
     each-last R xs x (λ zs. P (y ∷ zs)) (λ front z len each last. give (y ∷ front) z (omega arith) (h.0, each) last) ys h.1
 
-numbered-push : {B C : Type 0} (f : ℕ → B → List C) (c : ℕ) (ys : List B) (y : B) → numbered f c (ys ++ y ∷ []) ≡ numbered f c ys ++ f (c + length ys) y
+-- one element more at the end
+pub numbered-push : {B C : Type 0} (f : ℕ → B → List C) (c : ℕ) (ys : List B) (y : B) → numbered f c (ys ++ y ∷ []) ≡ numbered f c ys ++ f (c + length ys) y
 numbered-push f c [] y = append-nil (f c y) ∙ (let e : c ≡ c + 0 = omega arith in ap (λ (n : ℕ). f n y) e)
 numbered-push f c (z ∷ ys) y =
     let e : suc c + length ys ≡ c + suc (length ys) = omega arith in

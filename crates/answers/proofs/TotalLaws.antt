@@ -8,6 +8,7 @@ use Rattle.lie_bracket.specs.declared.term.Term.{Term}
 use Rattle.session.specs.declared.answer.Answer.{Answer}
 use Rattle.session.specs.declared.answer.Answer.TheVariants as answers
 use Rattle.session.specs.declared.answer.Outcome.{Outcome}
+use Rattle.versions.specs.declared.log.Accepted.{Accepted}
 use Rattle.session.specs.Play.{Due, Edited, Valued, Logged, Refused, DueOutcome}
 use Rattle.session.specs.Answers.{Shows, ShowsEach, ShowsAll, IsOutcome}
 use Rattle.answers.specs.declared.summary.Totals.{Totals}
@@ -100,7 +101,7 @@ counts_text n steps versions hits misses exps sum =
 
 -- the summary of the totals of an outcome is the one that is due
 pub summary-due : (n : ℕ) (extent : Extent) (outcome : Outcome) (totals : Totals) (due : DueOutcome) → totals ≡ fold with_kept no_totals (flat_map (λ kept. kept) outcome.transcripts.items) → IsOutcome extent outcome due
-    → counts_text n (length outcome.order.items) outcome.versions totals.hits totals.misses totals.exps totals.sum ≡ summary_text n extent due
+    → counts_text n (length outcome.order.items) (length outcome.edits.items) totals.hits totals.misses totals.exps totals.sum ≡ summary_text n extent due
 summary-due n extent outcome totals due e is =
     let dues : List Due = all_dues due in
     let all : AreTotals extent no_totals (pos 0) (all_dues due) (fold with_kept no_totals (flat_map (λ kept. kept) outcome.transcripts.items)) =
@@ -110,6 +111,6 @@ summary-due n extent outcome totals due e is =
     let exps : totals.exps ≡ sum_by (counted exps_in) dues = ap (λ (t : Totals). t.exps) e ∙ all.exps in
     let sum : totals.sum ≡ int_mod (int_sum (map (value_sum extent) dues)) (2 ^ 64) =
     ap (λ (t : Totals). t.sum) e ∙ all.sum_is ∙ ap (λ z. int_mod z (2 ^ 64)) (+ℤ_idl (int_sum (map (value_sum extent) dues))) in
-    ap₂ (λ (order : List ℕ) (versions : ℕ). counts_text n (length order) versions totals.hits totals.misses totals.exps totals.sum) is.order is.versions
-    ∙ ap₂ (λ (h : ℕ) (m : ℕ). counts_text n (length due.order) due.versions h m totals.exps totals.sum) hits misses
-    ∙ ap₂ (λ (x : ℕ) (s : ℕ). counts_text n (length due.order) due.versions (sum_by (counted hits_in) dues) (sum_by (counted misses_in) dues) x s) exps sum
+    ap₂ (λ (order : List ℕ) (edits : List Accepted). counts_text n (length order) (length edits) totals.hits totals.misses totals.exps totals.sum) is.order is.edits
+    ∙ ap₂ (λ (h : ℕ) (m : ℕ). counts_text n (length due.order) (length due.edits) h m totals.exps totals.sum) hits misses
+    ∙ ap₂ (λ (x : ℕ) (s : ℕ). counts_text n (length due.order) (length due.edits) (sum_by (counted hits_in) dues) (sum_by (counted misses_in) dues) x s) exps sum

@@ -45,11 +45,12 @@ command_at n i = command_from (draw n (suc i)) i
 abbrev pub numbers_of : ℕ → ℕ → List ℕ
 numbers_of n session = filter (λ i. i % 4 == session) (map (λ i. i - 1) (up_to n))
 
--- the script of n commands, in turn of four sessions, of width 2 and depth 4
+-- the script of n commands, in turn of four sessions, of width 2 and depth 4, with no watches
 abbrev pub generated : ℕ → ScriptValue
 generated n = record {
   extent = record { width = 2; depth = 4 };
   sessions = map (λ session. map (command_at n) (numbers_of n session)) (0 ∷ 1 ∷ 2 ∷ 3 ∷ []);
+  watches = [];
 }
 
 -- ---- the summary
@@ -101,7 +102,7 @@ abbrev pub summary_text : ℕ → Extent → DueOutcome → List ℕ
 summary_text n extent outcome =
     codes "gen " ++ decimal n
     ++ codes "\nsteps " ++ decimal (length outcome.order)
-    ++ codes "\nversions " ++ decimal outcome.versions
+    ++ codes "\nversions " ++ decimal (length outcome.edits)
     ++ codes "\nhits " ++ decimal (sum_by (counted hits_in) (all_dues outcome))
     ++ codes "\nmisses " ++ decimal (sum_by (counted misses_in) (all_dues outcome))
     ++ codes "\nexps " ++ decimal (sum_by (counted exps_in) (all_dues outcome))

@@ -1,14 +1,17 @@
 -- The JSON that a run writes: one object, whose keys are in the order of their bytes.
-use Rattle.std.specs.Prelude.{ℕ, zero, suc, ◌*◌, ◌==◌, if◌then◌else◌, List, [], ◌∷◌, ◌++◌, map, flat_map, codes, ℤ, pos}
+use Rattle.std.specs.Prelude.{ℕ, zero, suc, ◌*◌, ◌==◌, if◌then◌else◌, List, [], ◌∷◌, ◌++◌, map, flat_map, length, codes, ℤ, pos}
 use Rattle.std.specs.Fmt.{decimal, signed_decimal}
 use Rattle.definitions.specs.Words.{Extent, up_to, words_of, factorial}
 use Rattle.definitions.specs.Logarithm.{lcm_to}
 use Rattle.definitions.specs.Hall.{hall_list, degree, text_of}
 use Rattle.definitions.specs.declared.member.Member.{Member}
 use Rattle.lie_bracket.specs.declared.term.Term.{Term}
-use Rattle.serde_json.specs.Data.{unsigned, Data, number, string, array, object, no_members, member}
+use Rattle.serde_json.specs.Data.{unsigned, Data, number, string, array, object, Members, no_members, member}
 use Rattle.serde_json.specs.View.{items_of}
 use Rattle.serde_json.specs.Written.{compact_text}
+use Rattle.versions.specs.declared.log.Accepted.{Accepted}
+use Rattle.watches.specs.declared.interval.Interval.{Interval}
+use Rattle.watches.specs.Watches.{touching}
 use Rattle.versions.specs.declared.edit.EditReply.TheVariants.{Done, NameTaken, NoRow}
 use Rattle.book.specs.declared.step.LookReply.{LookReply}
 use Rattle.book.specs.declared.step.LookReply.TheVariants.{Found, NoVersion, Pair, Level, Overflow}
@@ -52,6 +55,11 @@ logarithm_level extent terms k = level_json (k * (factorial k * lcm_to k)) (flat
 abbrev pub logarithm_levels : Extent → List Term → List Data
 logarithm_levels extent terms = map (logarithm_level extent terms) (up_to extent.depth)
 
+-- ---- watches
+-- the versions that touched a watched interval, where these edits were accepted
+abbrev pub watch_json : List Accepted → Interval → Data
+watch_json edits watch = list (map natural (touching watch.from watch.to edits))
+
 -- ---- answers
 -- the answer to an edit: the number of its command, the reply and the version
 abbrev pub edit_json : ℕ → List ℕ → ℕ → Data
@@ -86,14 +94,25 @@ abbrev pub answers_json : Extent → ℕ → List Due → List Data
 answers_json extent c [] = []
 answers_json extent c (due ∷ dues) = answer_json extent c due ∷ answers_json extent (suc c) dues
 
--- the whole object: the sessions of the steps, the answers of each session, the shape and the last version
-abbrev pub outcome_json : Extent → DueOutcome → Data
-outcome_json extent outcome = object (
-    member (codes "order") (list (map natural outcome.order))
-    (member (codes "sessions") (list (map (λ dues. list (answers_json extent 1 dues)) outcome.transcripts))
+-- the sessions of the steps, the answers of each session, the shape and the last version, before these members
+abbrev pub parts_json : List Data → List Data → Extent → ℕ → Members → Members
+parts_json order sessions extent versions others =
+    member (codes "order") (list order)
+    (member (codes "sessions") (list sessions)
     (member (codes "shape") (list (natural extent.width ∷ natural extent.depth ∷ []))
-    (member (codes "versions") (natural outcome.versions) no_members))))
+    (member (codes "versions") (natural versions) others)))
+
+-- the member of the watches, where there are any
+abbrev pub watches_member : List Data → Members
+watches_member [] = no_members
+watches_member (watch ∷ watches) = member (codes "watches") (list (watch ∷ watches)) no_members
+
+-- the whole object
+abbrev pub outcome_json : Extent → List Interval → DueOutcome → Data
+outcome_json extent watches outcome = object (
+    parts_json (map natural outcome.order) (map (λ dues. list (answers_json extent 1 dues)) outcome.transcripts) extent (length outcome.edits)
+    (watches_member (map (watch_json outcome.edits) watches)))
 
 -- one line
-abbrev pub json_text : Extent → DueOutcome → List ℕ
-json_text extent outcome = compact_text (outcome_json extent outcome) ++ codes "\n"
+abbrev pub json_text : Extent → List Interval → DueOutcome → List ℕ
+json_text extent watches outcome = compact_text (outcome_json extent watches outcome) ++ codes "\n"

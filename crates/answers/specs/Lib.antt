@@ -1,3 +1,4 @@
+pub mod Watched
 pub mod Text
 pub mod Json
 pub mod Generator

@@ -1,5 +1,5 @@
 -- The text that a run writes. Numbers are decimal; each line ends with a line feed.
-use Rattle.std.specs.Prelude.{ℕ, zero, suc, ◌*◌, ◌==◌, if◌then◌else◌, List, [], ◌∷◌, ◌++◌, map, flat_map, codes, ℤ, pos}
+use Rattle.std.specs.Prelude.{ℕ, zero, suc, ◌*◌, ◌==◌, if◌then◌else◌, List, [], ◌∷◌, ◌++◌, map, flat_map, length, codes, ℤ, pos}
 use Rattle.std.specs.List.{join_with_byte}
 use Rattle.std.specs.Fmt.{decimal, signed_decimal}
 use Rattle.definitions.specs.Words.{Extent, up_to, words_of, factorial}
@@ -10,7 +10,9 @@ use Rattle.lie_bracket.specs.declared.term.Term.{Term}
 use Rattle.versions.specs.declared.edit.EditReply.TheVariants.{Done, NameTaken, NoRow}
 use Rattle.book.specs.declared.step.LookReply.{LookReply}
 use Rattle.book.specs.declared.step.LookReply.TheVariants.{Found, NoVersion, Pair, Level, Overflow}
+use Rattle.watches.specs.declared.interval.Interval.{Interval}
 use Rattle.session.specs.Play.{Due, Edited, Valued, Logged, Refused, DueOutcome}
+use Rattle.answers.specs.Watched.{numbers_text, watches_text}
 
 -- the letters in round brackets, with commas between
 abbrev pub word_text : List ℕ → List ℕ
@@ -77,15 +79,11 @@ abbrev pub sessions_text : Extent → ℕ → List (List Due) → List ℕ
 sessions_text extent s [] = []
 sessions_text extent s (dues ∷ sessions) = codes "session " ++ decimal s ++ codes "\n" ++ answers_text extent 1 dues ++ sessions_text extent (suc s) sessions
 
--- the session of each step, in order
-abbrev pub order_text : List ℕ → List ℕ
-order_text [] = codes "none"
-order_text (session ∷ order) = join_with_byte 44 (map decimal (session ∷ order))
-
--- the whole text: the shape, each session with its answers, the order and the last version
-abbrev pub outcome_text : Extent → DueOutcome → List ℕ
-outcome_text extent outcome =
+-- the whole text: the shape, each session with its answers, the session of each step in order, the last version, and the watches
+abbrev pub outcome_text : Extent → List Interval → DueOutcome → List ℕ
+outcome_text extent watches outcome =
     codes "shape " ++ decimal extent.width ++ codes " " ++ decimal extent.depth ++ codes "\n"
     ++ sessions_text extent 1 outcome.transcripts
-    ++ codes "order " ++ order_text outcome.order ++ codes "\n"
-    ++ codes "versions " ++ decimal outcome.versions ++ codes "\n"
+    ++ codes "order " ++ numbers_text outcome.order ++ codes "\n"
+    ++ codes "versions " ++ decimal (length outcome.edits) ++ codes "\n"
+    ++ watches_text outcome.edits 1 watches

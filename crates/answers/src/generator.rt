@@ -106,5 +106,5 @@ pub fn gen_script(alloc: Global, n: u32) -> Result<Script, Memory>
         Commands::of(third),
         Commands::of(fourth),
     ]?;
-    Ok(Script::of(shape, sessions))
+    Ok(Script::of(shape, sessions, Vec::new(alloc)))
 }

@@ -1,17 +1,20 @@
 //! The JSON that a run writes.
-ghost use Rattle.std.specs.Prelude.{◌≡◌, ◌∷◌, [], List, map, codes, IfOk, All};
+ghost use Rattle.std.specs.Prelude.{◌≡◌, ◌∷◌, ◌≤◌, [], List, length, map, codes, IfOk, All};
 ghost use Rattle.session.specs.Play.{Due, DueOutcome};
-ghost use Rattle.session.specs.Answers.{Shows, ShowsEach, ShowsAll, IsOutcome, HasMembers, AllHaveMembers};
+ghost use Rattle.session.specs.Answers.{Shows, ShowsEach, ShowsAll, IsOutcome, IsLogOf, HasMembers, AllHaveMembers};
 ghost use Rattle.serde_json.specs.Data.{string, object, member, no_members, put as with_member};
 ghost use Rattle.serde_json.specs.View.{view, members_view};
 ghost use Rattle.book.specs.declared.step.LookReply.TheVariants.{Pair, Level, Overflow};
-ghost use Rattle.answers.specs.Json.{natural, list, edit_json, look_json, answer_json, answers_json, outcome_json, json_text as text_in_json};
+ghost use Rattle.watches.specs.Watches.{IsInterval};
+ghost use Rattle.answers.specs.Json.{natural, list, edit_json, look_json, answer_json, answers_json, parts_json, watches_member, outcome_json, json_text as text_in_json};
 
 use crate::json_levels::{decimal_text, logarithm_values, signature_values};
+use crate::json_watches::watch_values;
 use hall_set::HallSet;
 use serde_json::{Map, Value, json, put};
 use session::{Answer, EditReply, LookReply, Outcome, Transcript};
 use std::alloc::Global;
+use watches::Interval;
 use words::{Memory, Shape};
 
 /// A reply of these words, with a version.
@@ -189,15 +192,15 @@ fn order_values(alloc: Global, order: &[u32]) -> Result<Vec<Value>, Memory>
     Ok(values)
 }
 
-/// The object of an outcome's parts.
-fn parts_value(
+/// The members of an outcome's parts, but for its watches.
+fn parts_members(
     alloc: Global,
     order: Vec<Value>,
     sessions: Vec<Value>,
     shape: Shape,
-    versions: u64,
-) -> Result<Value, Memory>
-    ensures { IfOk result (λ value. view value ≡ object (member (codes "order") (list (map view order.items)) (member (codes "sessions") (list (map view sessions.items)) (member (codes "shape") (list (natural shape.width ∷ natural shape.depth ∷ [])) (member (codes "versions") (natural versions) no_members))))) }
+    versions: usize,
+) -> Result<Map<String, Value>, Memory>
+    ensures { IfOk result (λ parts. members_view parts.entries ≡ parts_json (map view order.items) (map view sessions.items) shape versions no_members) }
 {
     let shape = vec![in alloc; Value::from(shape.width()), Value::from(shape.depth())]?;
     let mut parts = Map::new(alloc);
@@ -205,26 +208,65 @@ fn parts_value(
     put(&mut parts, alloc, "sessions", Value::Array(sessions))?;
     put(&mut parts, alloc, "shape", Value::Array(shape))?;
     put(&mut parts, alloc, "versions", Value::from(versions))?;
+    Ok(parts)
+}
+
+/// The object of an outcome's parts.
+fn parts_value(
+    alloc: Global,
+    order: Vec<Value>,
+    sessions: Vec<Value>,
+    shape: Shape,
+    versions: usize,
+    watches: Vec<Value>,
+) -> Result<Value, Memory>
+    ensures { IfOk result (λ value. view value ≡ object (parts_json (map view order.items) (map view sessions.items) shape versions (watches_member (map view watches.items)))) }
+{
+    let mut parts = parts_members(alloc, order, sessions, shape, versions)?;
+    if watches.is_empty() {
+        return Ok(Value::Object(parts));
+    }
+    put(&mut parts, alloc, "watches", Value::Array(watches))?;
     Ok(Value::Object(parts))
 }
 
-/// An outcome in JSON.
-fn outcome_value(alloc: Global, hall: &HallSet, outcome: &Outcome) -> Result<Value, Memory>
-    requires { AllHaveMembers hall.now outcome.now }
-    ensures { IfOk result (λ value. (due : DueOutcome) → IsOutcome hall.now outcome.now due → view value ≡ outcome_json hall.now due) }
+/// An outcome with these watches in JSON.
+fn outcome_value(
+    alloc: Global,
+    hall: &HallSet,
+    watches: &[Interval],
+    outcome: &Outcome,
+) -> Result<Value, Memory>
+    requires members { AllHaveMembers hall.now outcome.now }
+    requires log { IsLogOf hall.now outcome.now }
+    requires few { length watches.now ≤ 64 }
+    requires watches { All IsInterval watches.now }
+    ensures { IfOk result (λ value. (due : DueOutcome) → IsOutcome hall.now outcome.now due → view value ≡ outcome_json hall.now watches.now due) }
 {
+    let shape = hall.shape();
     let order = order_values(alloc, &outcome.order)?;
     let sessions = session_values(alloc, hall, &outcome.transcripts)?;
-    parts_value(alloc, order, sessions, hall.shape(), outcome.versions)
+    let touched = watch_values(alloc, shape, watches, &outcome.edits)?;
+    let versions = outcome.edits.len();
+    parts_value(alloc, order, sessions, shape, versions, touched)
 }
 
-/// The JSON of an outcome, on one line: the order of the steps, the answers of each session, the shape, and the last version.
-/// Where the outcome is the one that is due, so is its JSON. The set is that of the outcome's shape.
-pub fn json_of(alloc: Global, hall: &HallSet, outcome: &Outcome) -> Result<Vec<u8>, Memory>
-    requires { AllHaveMembers hall.now outcome.now }
-    ensures { IfOk result (λ text. (due : DueOutcome) → IsOutcome hall.now outcome.now due → text.items ≡ text_in_json hall.now due) }
+/// The JSON of an outcome, on one line: the order of the steps, the answers of each session, the shape, the last version, and the
+/// versions that touched each of these intervals, where there are any. Where the outcome is the one that is due, so is its JSON.
+/// The set is that of the outcome's shape.
+pub fn json_of(
+    alloc: Global,
+    hall: &HallSet,
+    watches: &[Interval],
+    outcome: &Outcome,
+) -> Result<Vec<u8>, Memory>
+    requires members { AllHaveMembers hall.now outcome.now }
+    requires log { IsLogOf hall.now outcome.now }
+    requires few { length watches.now ≤ 64 }
+    requires watches { All IsInterval watches.now }
+    ensures { IfOk result (λ text. (due : DueOutcome) → IsOutcome hall.now outcome.now due → text.items ≡ text_in_json hall.now watches.now due) }
 {
-    let value = outcome_value(alloc, hall, outcome)?;
+    let value = outcome_value(alloc, hall, watches, outcome)?;
     let mut text = value.to_vec(alloc)?;
     text.push(b'\n')?;
     Ok(text)

@@ -1,8 +1,9 @@
 ghost use Rattle.std.specs.Prelude.{◌≡◌, ◌^◌, ◌++◌, ◌<◌, ◌≤◌, [], length, codes, pos, map, flat_map, slice_index_or, string_bytes, OnOk, All};
 ghost use Rattle.std.specs.List.{join_with_byte};
-ghost use Rattle.std.specs.Fmt.{decimal, signed_decimal};
+ghost use Rattle.std.specs.Fmt.{signed_decimal};
 ghost use Rattle.definitions.specs.Words.{words_of, number};
 ghost use Rattle.scaled_tensor.specs.Tensors.{coefficient};
+ghost use Rattle.answers.specs.Watched.{listed};
 ghost use Rattle.answers.specs.Text.{word_text, term_text, level_text, levels_text};
 
 use itoa::{Buffer, Integer};
@@ -19,18 +20,29 @@ pub(crate) fn push_number<I: Integer>(text: &mut String, number: I) -> Result<()
 }
 
 /// Appends numbers with commas between.
-pub(crate) fn push_joined(text: &mut String, word: &[u32]) -> Result<(), Memory>
-    ensures { OnOk result (string_bytes text.new ≡ string_bytes text.old ++ join_with_byte 44 (map decimal word.now)) }
+pub(crate) fn push_joined<I: Integer>(text: &mut String, numbers: &[I]) -> Result<(), Memory>
+    ensures { OnOk result (string_bytes text.new ≡ string_bytes text.old ++ join_with_byte 44 (map I.text numbers.now)) }
 {
-    let Some((first, rest)) = word.split_first() else {
+    let Some((first, rest)) = numbers.split_first() else {
         return Ok(());
     };
     push_number(text, *first)?;
-    for letter in rest {
+    for number in rest {
         text.push_str(",")?;
-        push_number(text, *letter)?;
+        push_number(text, *number)?;
     }
     Ok(())
+}
+
+/// Appends numbers with commas between; `none` where there are none.
+pub(crate) fn push_listed<I: Integer>(text: &mut String, numbers: &[I]) -> Result<(), Memory>
+    ensures { OnOk result (string_bytes text.new ≡ string_bytes text.old ++ listed (map I.text numbers.now)) }
+{
+    if numbers.is_empty() {
+        text.push_str("none")?;
+        return Ok(());
+    }
+    push_joined(text, numbers)
 }
 
 /// Appends a word and its coefficient.

@@ -6,12 +6,14 @@ mod coordinates;
 mod generator;
 mod json_levels;
 mod json_text;
+mod json_watches;
 pub mod laws;
 mod levels;
 mod summary;
 #[cfg(test)]
 mod tests;
 mod text;
+mod watched;
 
 pub use cbh::{CbhResult, cbh_text};
 pub use generator::gen_script;

@@ -137,7 +137,7 @@ pub fn summary_of(alloc: Global, n: u32, shape: Shape, outcome: &Outcome) -> Res
 {
     let mut text = String::new(alloc);
     let steps = outcome.order.len();
-    let versions = outcome.versions;
+    let versions = outcome.edits.len();
     let Totals {
         hits,
         misses,

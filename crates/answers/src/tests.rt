@@ -1,4 +1,5 @@
-ghost use Rattle.std.specs.Prelude.{◌≡◌, ◌<◌, ◌≤◌};
+ghost use Rattle.std.specs.Prelude.{◌≡◌, ◌<◌, ◌≤◌, length, All};
+ghost use Rattle.watches.specs.Watches.{IsInterval};
 ghost use Rattle.answers.specs.CbhText.{HasNumbers};
 
 use crate::{CbhResult, cbh_text, gen_script, json_of, summary_of, text_of};
@@ -8,6 +9,7 @@ use session::{Answer, EditReply, LookReply, Outcome, Transcript, replay_round};
 use std::alloc::Global;
 use std::sync::ledger::{Blank, Ledger};
 use std::test::Fail;
+use watches::Interval;
 use words::{Capacity, Free, Memory, Shape, ShapeFault, Steps};
 
 /// The coefficients 2, -3 at the letters and 4, 0, -6, 9 at the pairs of letters.
@@ -34,11 +36,11 @@ session 1
 level 1 over 1 (1)=2 (2)=-3
 level 2 over 2 (1,1)=4 (2,1)=-6 (2,2)=9
 order 1,2,1
-versions 1
+versions 0
 ";
 
 const EACH_ANSWER_IN_JSON: &[u8] =
-    br#"{"order":[1,2,1],"sessions":[[{"command":1,"reply":"done","version":1},{"command":2,"reply":"name-taken","version":1},{"command":3,"reply":"no-row","version":1},{"command":4,"reply":"no-version","version":1},{"command":5,"reply":"overflow","weight":"60097"},{"command":6,"exps":4,"hits":2,"levels":[{"over":"1","terms":[["(1)","2"],["(2)","-3"]]},{"over":"2","terms":[["(1,1)","4"],["(2,1)","-6"],["(2,2)","9"]]}],"misses":3,"reply":"sig","version":1}]],"shape":[2,2],"versions":1}
+    br#"{"order":[1,2,1],"sessions":[[{"command":1,"reply":"done","version":1},{"command":2,"reply":"name-taken","version":1},{"command":3,"reply":"no-row","version":1},{"command":4,"reply":"no-version","version":1},{"command":5,"reply":"overflow","weight":"60097"},{"command":6,"exps":4,"hits":2,"levels":[{"over":"1","terms":[["(1)","2"],["(2)","-3"]]},{"over":"2","terms":[["(1,1)","4"],["(2,1)","-6"],["(2,2)","9"]]}],"misses":3,"reply":"sig","version":1}]],"shape":[2,2],"versions":0}
 "#;
 
 #[test]
@@ -64,12 +66,15 @@ fn each_answer(rt: HostRuntime) -> Result<(), Fail> {
     let outcome = Outcome {
         transcripts: vec![in alloc; Transcript::of(answers)]?,
         order: vec![in alloc; 1, 2, 1]?,
-        versions: 1,
+        edits: Vec::new(alloc),
     };
     let hall = HallSet::build(alloc, shape)?;
-    assert_eq!(rt; text_of(alloc, &hall, &outcome)?.as_slice(), EACH_ANSWER);
     assert_eq!(rt;
-        json_of(alloc, &hall, &outcome)?.as_slice(),
+        text_of(alloc, &hall, &[], &outcome)?.as_slice(),
+        EACH_ANSWER
+    );
+    assert_eq!(rt;
+        json_of(alloc, &hall, &[], &outcome)?.as_slice(),
         EACH_ANSWER_IN_JSON
     );
     Ok(())
@@ -99,11 +104,11 @@ fn one_row_in_json(rt: HostRuntime) -> Result<(), Fail> {
     let outcome = Outcome {
         transcripts: vec![in alloc; Transcript::of(answers)]?,
         order: vec![in alloc; 1, 1, 1]?,
-        versions: 1,
+        edits: Vec::new(alloc),
     };
     assert_eq!(rt;
-        json_of(alloc, &HallSet::build(alloc, shape)?, &outcome)?.as_slice(),
-        br#"{"order":[1,1,1],"sessions":[[{"command":1,"reply":"done","version":1},{"command":2,"exps":1,"hits":0,"levels":[{"over":"1","terms":[["(1)","2"],["(2)","3"]]},{"over":"2","terms":[["(1,1)","4"],["(1,2)","6"],["(2,1)","6"],["(2,2)","9"]]}],"misses":1,"reply":"sig","version":1}]],"shape":[2,2],"versions":1}
+        json_of(alloc, &HallSet::build(alloc, shape)?, &[], &outcome)?.as_slice(),
+        br#"{"order":[1,1,1],"sessions":[[{"command":1,"reply":"done","version":1},{"command":2,"exps":1,"hits":0,"levels":[{"over":"1","terms":[["(1)","2"],["(2)","3"]]},{"over":"2","terms":[["(1,1)","4"],["(1,2)","6"],["(2,1)","6"],["(2,2)","9"]]}],"misses":1,"reply":"sig","version":1}]],"shape":[2,2],"versions":0}
 "#
             .as_slice()
     );
@@ -119,20 +124,36 @@ fn no_answers(rt: HostRuntime) -> Result<(), Fail> {
     let outcome = Outcome {
         transcripts: vec![in alloc; first, second]?,
         order: Vec::new(alloc),
-        versions: 0,
+        edits: Vec::new(alloc),
     };
     let expected = b"shape 12 1\nsession 1\nsession 2\norder none\nversions 0\n";
     assert_eq!(rt;
-        text_of(alloc, &HallSet::build(alloc, shape)?, &outcome)?.as_slice(),
+        text_of(alloc, &HallSet::build(alloc, shape)?, &[], &outcome)?.as_slice(),
         expected.as_slice()
     );
     Ok(())
 }
 
-/// The order and the summary of the run of the script that n generates.
-fn run_of<L: Ledger>(alloc: Global, n: u32, blank: Blank) -> Result<(Vec<u32>, Vec<u8>), Memory>
+/// What is written of a run.
+#[derive(Drop)]
+struct Written {
+    order: Vec<u32>,
+    summary: Vec<u8>,
+    text: Vec<u8>,
+    json: Vec<u8>,
+}
+
+/// The run of the script that n generates, with these watches.
+fn run_of<L: Ledger>(
+    alloc: Global,
+    n: u32,
+    watches: &[Interval],
+    blank: Blank,
+) -> Result<Written, Memory>
     requires some { 1 ≤ n }
     requires within { n ≤ 10000 }
+    requires few { length watches.now ≤ 64 }
+    requires watches { All IsInterval watches.now }
     requires name { blank.name ≡ L.name }
     requires parts { blank.parts ≡ L.parts }
     requires counted { 0 < L.parts }
@@ -141,36 +162,73 @@ fn run_of<L: Ledger>(alloc: Global, n: u32, blank: Blank) -> Result<(Vec<u32>, V
     let script = gen_script(alloc, n)?;
     let outcome = replay_round(alloc, &script, Capacity::usual(), &mut steps)?;
     let summary = summary_of(alloc, n, script.shape(), &outcome)?;
-    Ok((outcome.order, summary))
+    let hall = HallSet::build(alloc, script.shape())?;
+    let text = text_of(alloc, &hall, watches, &outcome)?;
+    let json = json_of(alloc, &hall, watches, &outcome)?;
+    Ok(Written {
+        order: outcome.order,
+        summary,
+        text,
+        json,
+    })
 }
 
 /// That run, over a count of steps that nobody reads.
-fn free_run_of(alloc: Global, n: u32) -> Result<(Vec<u32>, Vec<u8>), Memory>
+fn free_run_of(alloc: Global, n: u32, watches: &[Interval]) -> Result<Written, Memory>
     requires some { 1 ≤ n }
     requires within { n ≤ 10000 }
+    requires few { length watches.now ≤ 64 }
+    requires watches { All IsInterval watches.now }
 {
-    run_of::<Free>(alloc, n, Blank::new(1))
+    run_of::<Free>(alloc, n, watches, Blank::new(1))
 }
 
 #[test]
 fn eight_commands(rt: HostRuntime) -> Result<(), Fail> {
-    let (order, summary) = free_run_of(rt.alloc(), 8)?;
-    assert_eq!(rt; order.as_slice(), [1, 2, 3, 4, 1, 2, 3, 4, 4].as_slice());
+    let written = free_run_of(rt.alloc(), 8, &[])?;
     assert_eq!(rt;
-        summary.as_slice(),
+        written.order.as_slice(),
+        [1, 2, 3, 4, 1, 2, 3, 4, 4].as_slice()
+    );
+    assert_eq!(rt;
+        written.summary.as_slice(),
         b"gen 8\nsteps 9\nversions 7\nhits 0\nmisses 1\nexps 2\nsum 60\n".as_slice()
     );
     Ok(())
 }
 
+const ONE_COMMAND: &[u8] = b"shape 2 4
+session 1
+1 done 1
+session 2
+session 3
+session 4
+order 1
+versions 1
+watch 1 versions 1
+watch 2 versions none
+";
+
+const ONE_COMMAND_IN_JSON: &[u8] =
+    br#"{"order":[1],"sessions":[[{"command":1,"reply":"done","version":1}],[],[],[]],"shape":[2,4],"versions":1,"watches":[[1],[]]}
+"#;
+
 #[test]
 fn one_command(rt: HostRuntime) -> Result<(), Fail> {
-    let (order, summary) = free_run_of(rt.alloc(), 1)?;
-    assert_eq!(rt; order.as_slice(), [1].as_slice());
+    let watches = [
+        Interval {
+            from: 9536,
+            to: 9537,
+        },
+        Interval { from: 0, to: 9536 },
+    ];
+    let written = free_run_of(rt.alloc(), 1, &watches)?;
     assert_eq!(rt;
-        summary.as_slice(),
+        written.summary.as_slice(),
         b"gen 1\nsteps 1\nversions 1\nhits 0\nmisses 0\nexps 0\nsum 0\n".as_slice()
     );
+    assert_eq!(rt; written.text.as_slice(), ONE_COMMAND);
+    assert_eq!(rt; written.json.as_slice(), ONE_COMMAND_IN_JSON);
     Ok(())
 }
 

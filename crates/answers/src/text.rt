@@ -1,14 +1,17 @@
-ghost use Rattle.std.specs.Prelude.{◌≡◌, ◌++◌, ℕ, List, map, codes, string_bytes, OnOk, IfOk, All};
+ghost use Rattle.std.specs.Prelude.{◌≡◌, ◌++◌, ◌≤◌, ℕ, List, length, map, codes, string_bytes, OnOk, IfOk, All};
 ghost use Rattle.std.specs.Fmt.{decimal};
 ghost use Rattle.session.specs.Play.{Due, DueOutcome};
-ghost use Rattle.session.specs.Answers.{Shows, ShowsEach, ShowsAll, IsOutcome, HasMembers, AllHaveMembers};
-ghost use Rattle.answers.specs.Text.{look_text, answer_text, answers_text, sessions_text, order_text, outcome_text};
+ghost use Rattle.session.specs.Answers.{Shows, ShowsEach, ShowsAll, IsOutcome, IsLogOf, HasMembers, AllHaveMembers};
+ghost use Rattle.watches.specs.Watches.{IsInterval};
+ghost use Rattle.answers.specs.Text.{look_text, answer_text, answers_text, sessions_text, outcome_text};
 
 use crate::coordinates::push_log_levels;
-use crate::levels::{push_joined, push_levels};
+use crate::levels::{push_levels, push_listed};
+use crate::watched::push_watches;
 use hall_set::HallSet;
 use session::{Answer, EditReply, LookReply, Outcome, Transcript};
 use std::alloc::Global;
+use watches::Interval;
 use words::Memory;
 
 /// Appends the reply to a query of this kind.
@@ -95,33 +98,31 @@ fn push_sessions(
     Ok(())
 }
 
-/// Appends the sessions of the steps, with commas between; `none` where there are no steps.
-fn push_order(text: &mut String, order: &[u32]) -> Result<(), Memory>
-    ensures { OnOk result (string_bytes text.new ≡ string_bytes text.old ++ order_text order.now) }
-{
-    if order.is_empty() {
-        text.push_str("none")?;
-        return Ok(());
-    }
-    push_joined(text, order)
-}
-
-/// The text of an outcome: the shape, the answers of each session, the order of the steps, and the last version.
-/// Where the outcome is the one that is due, so is its text. The set is that of the outcome's shape.
-pub fn text_of(alloc: Global, hall: &HallSet, outcome: &Outcome) -> Result<Vec<u8>, Memory>
-    requires { AllHaveMembers hall.now outcome.now }
-    ensures { IfOk result (λ text. (due : DueOutcome) → IsOutcome hall.now outcome.now due → text.items ≡ outcome_text hall.now due) }
+/// The text of an outcome: the shape, the answers of each session, the order of the steps, the last version, and the versions that
+/// touched each of these intervals. Where the outcome is the one that is due, so is its text. The set is that of the outcome's shape.
+pub fn text_of(
+    alloc: Global,
+    hall: &HallSet,
+    watches: &[Interval],
+    outcome: &Outcome,
+) -> Result<Vec<u8>, Memory>
+    requires members { AllHaveMembers hall.now outcome.now }
+    requires log { IsLogOf hall.now outcome.now }
+    requires few { length watches.now ≤ 64 }
+    requires watches { All IsInterval watches.now }
+    ensures { IfOk result (λ text. (due : DueOutcome) → IsOutcome hall.now outcome.now due → text.items ≡ outcome_text hall.now watches.now due) }
 {
     let mut text = String::new(alloc);
     let shape = hall.shape();
     let width = shape.width();
     let depth = shape.depth();
-    let versions = outcome.versions;
+    let versions = outcome.edits.len();
     writeln!(text, "shape {width} {depth}")?;
     push_sessions(&mut text, hall, &outcome.transcripts)?;
     write!(text, "order ")?;
-    push_order(&mut text, &outcome.order)?;
+    push_listed(&mut text, &outcome.order)?;
     writeln!(text)?;
     writeln!(text, "versions {versions}")?;
+    push_watches(&mut text, alloc, shape, watches, &outcome.edits)?;
     Ok(text.into_bytes())
 }

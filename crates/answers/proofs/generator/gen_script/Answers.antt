@@ -1,7 +1,8 @@
-use Rattle.std.proofs.Common.{◌≡◌, ◌∙◌, ◌+◌, ◌*◌, ◌%◌, ℕ, suc, add-one, List, sym, ap, ap₂, subst, arith, rules}
+use Rattle.std.proofs.Common.{◌≡◌, ◌∙◌, ◌+◌, ◌*◌, ◌%◌, ℕ, suc, add-one, List, [], sym, ap, ap₂, subst, arith, rules}
 use Rattle.definitions.specs.Words.{Extent}
 use Rattle.script_reader.specs.declared.command.Command.{Command}
 use Rattle.script_reader.specs.Script.{ScriptValue, IsScript}
+use Rattle.watches.specs.declared.interval.Interval.{Interval}
 use Rattle.answers.specs.Generator.{draw, command_from, command_at, generated}
 use Rattle.answers.proofs.Generated.{draw-small, command-taken, command-passed, sessions-whole, generated-within, generated_extent}
 use Rattle.answers.proofs.generator.gen_script.Goals as goal
@@ -56,5 +57,6 @@ of-requires-5 c =
     let whole = sessions-whole c.args.n c.loop-i.i c.loop-i.first.items c.loop-i.second.items c.loop-i.third.items c.loop-i.fourth.items last c.loop-i.invariant.first c.loop-i.invariant.second c.loop-i.invariant.third c.loop-i.invariant.fourth in
     cc) in
     let shape : c.in-Ok.shape ≡ generated_extent = search rules in
-    let script : Extent → List (List Command) → ScriptValue = λ extent sessions. record { extent = extent; sessions = sessions } in
-    subst IsScript (sym (ap₂ script shape sessions)) (generated-within c.args.n c.requires.within)
+    let none : c.new-2.result.items ≡ [] = search rules in
+    let script : Extent → List (List Command) → List Interval → ScriptValue = λ extent sessions watches. record { extent = extent; sessions = sessions; watches = watches } in
+    subst IsScript (sym (ap₂ (λ e s. script e s c.new-2.result.items) shape sessions ∙ ap (script generated_extent (generated c.args.n).sessions) none)) (generated-within c.args.n c.requires.within)

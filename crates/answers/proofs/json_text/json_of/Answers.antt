@@ -7,6 +7,6 @@ use Rattle.answers.proofs.json_text.json_of.Goals as goal
 
 pub returns : goal.returns
 returns c = λ due outcome.
-    let is : view c.in_ok-value.value ≡ outcome_json c.args.hall.now due = c.in_ok-value.ensures due outcome in
+    let is : view c.in_ok-value.value ≡ outcome_json c.args.hall.now c.args.watches.now due = c.in_ok-value.ensures due outcome in
     c.in_ok-push.ensures.items
-    ∙ ap (λ (t : List ℕ). t ++ codes "\n") (c.in_ok-text.ensures.text (ap has_float is ∙ outcome-none c.args.hall.now due) ∙ ap compact_text is)
+    ∙ ap (λ (t : List ℕ). t ++ codes "\n") (c.in_ok-text.ensures.text (ap has_float is ∙ outcome-none c.args.hall.now c.args.watches.now due) ∙ ap compact_text is)
