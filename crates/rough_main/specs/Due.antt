@@ -7,7 +7,7 @@ use Rattle.command_line.specs.declared.wish.Form.TheVariants as forms
 use Rattle.command_line.specs.declared.wish.Wish.{Wish}
 use Rattle.command_line.specs.declared.wish.Wish.TheVariants as wishes
 use Rattle.script_reader.specs.declared.fault.Reason.{Reason}
-use Rattle.script_reader.specs.declared.fault.Reason.TheVariants.{Byte, Keyword, Place, Fields, Name, Time, Number, Width, Depth, Words, Session, Interval, Resolution, Commands, Load, Answers, End}
+use Rattle.script_reader.specs.declared.fault.Reason.TheVariants.{Byte, Keyword, Place, Fields, Name, Time, Number, Width, Depth, Words, Session, Interval, Resolution, Watches, Commands, Load, Answers, End}
 use Rattle.script_reader.specs.declared.fault.ScriptFault.{ScriptFault}
 use Rattle.script_reader.specs.declared.fault.ScriptFault.TheVariants.{Size, Line, Memory}
 use Rattle.script_reader.specs.Script.{ScriptValue, parse}
@@ -38,6 +38,7 @@ reason_text Words = codes "words"
 reason_text Session = codes "session"
 reason_text Interval = codes "interval"
 reason_text Resolution = codes "resolution"
+reason_text Watches = codes "watches"
 reason_text Commands = codes "commands"
 reason_text Load = codes "load"
 reason_text Answers = codes "answers"
@@ -53,14 +54,14 @@ fault_text Size = codes "fault size\n"
 fault_text (Line n reason) = line_text n reason
 fault_text Memory = []
 
--- an outcome as text, or as JSON
-abbrev pub written : Form → Extent → DueOutcome → List ℕ
-written forms.Text extent outcome = outcome_text extent outcome
-written forms.Json extent outcome = json_text extent outcome
+-- the outcome of a script as text, or as JSON
+abbrev pub written : Form → ScriptValue → DueOutcome → List ℕ
+written forms.Text script outcome = outcome_text script.extent script.watches outcome
+written forms.Json script outcome = json_text script.extent script.watches outcome
 
 -- the answers of a script whose sessions take their steps in this order
 abbrev pub answered : Form → ℕ → ScriptValue → List ℕ → DueReply
-answered form capacity script order = record { status = 0; text = written form script.extent (due_outcome capacity script order) }
+answered form capacity script order = record { status = 0; text = written form script (due_outcome capacity script order) }
 
 -- the fault of an order, whose places count from 1
 abbrev pub place_text : ℕ → List ℕ

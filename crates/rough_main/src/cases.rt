@@ -575,6 +575,78 @@ level 4 over 1152 [2,[1,[1,2]]]=-48\n",
     (SCRIPT, 3, "fault line 2 number\n"),
 ];
 
+/// Words, scripts with watches, and what is written.
+pub(crate) const WATCHED: [(&[&str], &str, &str); 7] = [
+    (
+        &[],
+        "shape 1 1\nsession 1\nwatch 0 1 0\nappend a 1/2 5\nappend b 1 7\ncorrect a 6\nremove b\n",
+        "shape 1 1\n\
+session 1\n\
+1 done 1\n\
+2 done 2\n\
+3 done 3\n\
+4 done 4\n\
+order 1,1,1,1\n\
+versions 4\n\
+watch 1 versions 1,3\n",
+    ),
+    (
+        &[],
+        "shape 1 1\nwatch 2 3 0\nsession 1\nappend a 1/2 5\nwatch 0 2 0\nappend b 1 7\n",
+        "shape 1 1\n\
+session 1\n\
+1 done 1\n\
+2 done 2\n\
+order 1,1\n\
+versions 2\n\
+watch 1 versions none\n\
+watch 2 versions 1,2\n",
+    ),
+    (
+        &["--json"],
+        "shape 1 1\nsession 1\nwatch 0 1 0\nappend a 1/2 5\n",
+        "{\"order\":[1],\"sessions\":[[{\"command\":1,\"reply\":\"done\",\"version\":1}]],\"shape\":[1,1],\"versions\":1,\"watches\":[[1]]}\n",
+    ),
+    (
+        &[],
+        "shape 1 1\nwatch 0 1 0\nsession 1\n",
+        "shape 1 1\nsession 1\norder none\nversions 0\nwatch 1 versions none\n",
+    ),
+    (
+        &["--json"],
+        "shape 1 1\nwatch 0 1 0\nsession 1\n",
+        "{\"order\":[],\"sessions\":[[]],\"shape\":[1,1],\"versions\":0,\"watches\":[[]]}\n",
+    ),
+    // The ends of the first are rounded to nothing; a refused edit makes no version.
+    (
+        &[],
+        "shape 1 1\nwatch 1/4 3/4 0\nwatch 1/4 3/4 2\nsession 1\nappend a 1/2 5\nappend a 1/2 6\nremove b\n",
+        "shape 1 1\n\
+session 1\n\
+1 done 1\n\
+2 name-taken 1\n\
+3 no-row 1\n\
+order 1,1,1\n\
+versions 1\n\
+watch 1 versions none\n\
+watch 2 versions 1\n",
+    ),
+    (
+        &["--order", "1,2,2,1"],
+        "shape 1 1\nwatch 0 1 0\nsession 1\nappend a 0 1\nremove b\nsession 2\nappend b 1 1\ncorrect a 2\n",
+        "shape 1 1\n\
+session 1\n\
+1 done 1\n\
+2 done 4\n\
+session 2\n\
+1 done 2\n\
+2 done 3\n\
+order 1,2,2,1\n\
+versions 4\n\
+watch 1 versions 1,3\n",
+    ),
+];
+
 /// A loop of two moves.
 pub(crate) const LOOP: &str = "# a loop of two\nshape 2 3\n1 0\n0 1\n-1 0\n0 -1\n";
 

@@ -27,6 +27,7 @@ fn reason_name(reason: Reason) -> &'static str
         Reason::Session => "session",
         Reason::Interval => "interval",
         Reason::Resolution => "resolution",
+        Reason::Watches => "watches",
         Reason::Commands => "commands",
         Reason::Load => "load",
         Reason::Answers => "answers",

@@ -116,3 +116,17 @@ fn most_sessions(rt: HostRuntime) -> Result<(), Fail> {
     }
     Ok(())
 }
+
+#[test]
+fn most_watches(rt: HostRuntime) -> Result<(), Fail> {
+    let alloc = rt.alloc();
+    let most = followed(alloc, "shape 1 1\nsession 1\n", "watch 0 1 0\n", 64)?;
+    let (status, written) = answers_to(&rt, alloc, &[], most.as_str(), &Through)?;
+    assert_eq!(rt; status, 0);
+    assert!(rt; written.ends_with("\nwatch 64 versions none\n"));
+    let more = followed(alloc, most.as_str(), "watch 0 1 0\n", 1)?;
+    let (status, written) = answers_to(&rt, alloc, &[], more.as_str(), &Through)?;
+    assert_eq!(rt; status, 3);
+    assert_eq!(rt; written.as_str(), "fault line 67 watches\n");
+    Ok(())
+}

@@ -2,7 +2,7 @@
 ghost use Rattle.std.specs.Prelude.{◌≡◌, ◌<◌, ◌≤◌, ℕ, List, codes, IfOk, OnOk};
 ghost use Rattle.script_reader.specs.Script.{parse};
 ghost use Rattle.session.specs.Play.{DueOutcome};
-ghost use Rattle.session.specs.Answers.{IsOutcome, AllHaveMembers};
+ghost use Rattle.session.specs.Answers.{IsOutcome, AllHaveMembers, IsLogOf};
 ghost use Rattle.session.specs.Logarithms.{LogarithmsExpand};
 ghost use Rattle.session.specs.Versions.{VersionsNeverFall};
 ghost use Rattle.rough_main.specs.Statuses.{code_of};
@@ -29,20 +29,22 @@ pub struct Reply {
     pub text: Vec<u8>,
 }
 
-/// The reply with an outcome in this form.
+/// The reply with an outcome of the script in this form.
 fn reply_with(
     alloc: Global,
     script: &Script,
     form: Form,
     outcome: &Outcome,
 ) -> Result<Reply, Memory>
-    requires { AllHaveMembers script.now.extent outcome.now }
-    ensures { (due : DueOutcome) → IsOutcome script.now.extent outcome.now due → IfOk result (λ reply. IsReply (code_of reply.status) reply.text.items (record { status = 0; text = written form script.now.extent due })) }
+    requires members { AllHaveMembers script.now.extent outcome.now }
+    requires log { IsLogOf script.now.extent outcome.now }
+    ensures { (due : DueOutcome) → IsOutcome script.now.extent outcome.now due → IfOk result (λ reply. IsReply (code_of reply.status) reply.text.items (record { status = 0; text = written form script.now due })) }
 {
     let hall = HallSet::build(alloc, script.shape())?;
+    let watches = script.watches();
     let text = match form {
-        Form::Text => text_of(alloc, &hall, outcome)?,
-        Form::Json => json_of(alloc, &hall, outcome)?,
+        Form::Text => text_of(alloc, &hall, watches, outcome)?,
+        Form::Json => json_of(alloc, &hall, watches, outcome)?,
     };
     Ok(Reply {
         status: Status::Answered,

@@ -1,6 +1,6 @@
 use crate::cases::{
     ANSWERED, ANSWERS, JSON_ANSWERS, LIE_ROWS, LOGARITHMS, LOOP, LOOP_PRODUCT, ORDERED, PRODUCTS,
-    SCRIPT,
+    SCRIPT, WATCHED,
 };
 use crate::{Through, rough, rough_plain};
 use rough_io::{MemorySink, MemorySource};
@@ -94,6 +94,29 @@ fn partitions_are_answered(rt: HostRuntime) -> Result<(), Fail> {
     let run = run_over_memory(&rt, rt.alloc(), &[], PARTITION, &[], &[])?;
     assert_eq!(rt; run.status, 0);
     assert_eq!(rt; run.written.as_str(), PARTITION_ANSWERS);
+    Ok(())
+}
+
+#[test]
+fn watches_are_answered(rt: HostRuntime) -> Result<(), Fail> {
+    for (words, script, text) in WATCHED {
+        let run = run_over_memory(&rt, rt.alloc(), words, script, &[], &[])?;
+        assert_eq!(rt; run.status, 0, "of {script}");
+        assert_eq!(rt; run.written.as_str(), text, "of {script}");
+    }
+    Ok(())
+}
+
+#[test]
+fn watches_are_refused(rt: HostRuntime) -> Result<(), Fail> {
+    for (script, refusal) in [
+        ("watch 0 1 0\n", "fault line 1 place\n"),
+        ("shape 1 1\nwatch 0 1 0\n", "fault line 3 end\n"),
+    ] {
+        let run = run_over_memory(&rt, rt.alloc(), &[], script, &[], &[])?;
+        assert_eq!(rt; run.status, 3, "at {refusal}");
+        assert_eq!(rt; run.written.as_str(), refusal, "of {script}");
+    }
     Ok(())
 }
 

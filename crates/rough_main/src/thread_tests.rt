@@ -63,13 +63,13 @@ pub(crate) fn printed_order(answers: &str) -> Option<&str> {
 
 #[test]
 fn threads_are_as_one_thread_in_their_order(rt: HostRuntime) -> Result<(), Fail> {
-    let mut script = String::from_str(rt.alloc(), "shape 3 4\n")?;
+    let mut script = String::from_str(rt.alloc(), "shape 3 4\nwatch 0 1000 0\n")?;
     for session in 1..=3u64 {
         write_session(rt.alloc(), &mut script, session)?;
     }
     let (status, answers) = answers_to(&rt, rt.alloc(), &[], &script, &Through)?;
     assert_eq!(rt; status, 0);
-    assert!(rt; answers.ends_with("versions 2000\n"));
+    assert!(rt; answers.contains("\nversions 2000\nwatch 1 versions "));
     for refusal in ["name-taken", "no-row", "no-version", "growth", "overflow"] {
         assert!(rt; !answers.contains(refusal));
     }
