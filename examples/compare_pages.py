@@ -49,11 +49,16 @@ def main():
         wrong.append("area.script")
     if text != lines_of("area.text"):
         wrong.append("area.text")
-    script, text = columns("Several logarithms can be asked for", "With `--json` the answers")
+    script, text = columns("Several logarithms can be asked for", "A script may watch intervals")
     if script != lines_of("partition.script"):
         wrong.append("partition.script")
     if text != lines_of("partition.text"):
         wrong.append("partition.text")
+    script, text = columns("A script may watch intervals", "With `--json` the answers")
+    if script != lines_of("watch.script"):
+        wrong.append("watch.script")
+    if text != lines_of("watch.text"):
+        wrong.append("watch.text")
     script, text = columns("With `--cbh` the program is", "`examples/walk.script` is a walk")
     if script != lines_of("loop.elements"):
         wrong.append("loop.elements in two columns")

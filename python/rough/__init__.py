@@ -11,7 +11,7 @@
 
 A row at the time `stop` is not in an interval from `start` up to `stop`. Only the standard library is needed; numpy
 is used by `array()`, and matplotlib by `rough.plot`. The program is the one that the variable ROUGH names, or that
-this repository has built.
+this repository has built, or `rough` on the PATH.
 """
 
 from .basis import expansion, hall_set, text_of, words

@@ -105,10 +105,12 @@ def check_script(wish: argparse.Namespace) -> int:
 def _commands(content: list[tuple[int, list[bytes]]], shape: Script) -> Iterator[tuple[Handle, tuple[int, str]]]:
     """The commands of a good script, each with the number of its line and its text; the script gets its sessions."""
     for number, words in content:
+        line = b" ".join(words).decode("ascii")
         if words[0] == b"session":
             session = shape.session()
+        elif words[0] == b"watch":
+            shape.watches.append(line)
         else:
-            line = b" ".join(words).decode("ascii")
             for handle in session.commands(line):
                 yield handle, (number, line)
 

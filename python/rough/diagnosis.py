@@ -16,7 +16,7 @@ _TICKS = 65536
 MENDS = {
     "byte": "{field} has a byte that isn't printable ASCII, a space or a tab (an accent, a dash, a byte order mark?): "
     "write plain letters",
-    "keyword": "{field} is none of shape, session, append, correct, remove, sig, log and parts",
+    "keyword": "{field} is none of shape, session, append, correct, remove, sig, log, parts and watch",
     "place": "the first line is `shape W N`, which stands once, and commands stand after `session 1`",
     "fields": "it hasn't the words that are due: {due}",
     "name": "{field} isn't a name: 1 to 32 letters, digits and underscores, the first a letter",
@@ -30,6 +30,7 @@ MENDS = {
     "session": "the sessions are 1, 2, 3 and so on, in this order, at most 16, and not {field}",
     "interval": "an interval ends before it begins: exchange its ends; times of `parts` may be equal, and never fall",
     "resolution": "the resolution is from 0 to 16, and not {field}",
+    "watches": "a script watches at most 64 intervals",
     "commands": "a script has at most 65,536 commands: ask in several scripts",
     "load": "commands times words of the shape exceed 8,000,000: have fewer rows, or a lesser depth",
     "answers": "queries times words of the shape exceed 2,000,000: ask in several scripts",
@@ -71,6 +72,7 @@ def _due(words: Sequence[str], shape: tuple[int, int] | None) -> str:
         "sig": f"sig {query}",
         "log": f"log {query}",
         "parts": "parts resolution version, and 2 to 65 times",
+        "watch": "watch from to resolution",
     }
     return forms.get(words[0] if words else "", "a keyword, and its words")
 
@@ -105,6 +107,7 @@ def _fields_of(keyword: str, count: int) -> list[Test | None]:
         "sig": query,
         "log": query,
         "parts": [_is_plain, _is_version, *[_is_end] * count],
+        "watch": [_is_end, _is_end, _is_plain],
     }
     return forms.get(keyword, [])
 

@@ -94,7 +94,7 @@ class Clock:
 @dataclass(frozen=True)
 class Rounding:
     """What was rounded: the `lengths` and `level_errors` of channels in the units of the data; `weight` and
-    `step_error` of all steps, and the weight of the `heaviest` steps in a row that are asked for, in whole units.
+    `step_error` of all steps, and `heaviest`, the greatest weight of steps in a row that are asked for, in whole units.
     """
 
     channels: list[str]
@@ -205,7 +205,7 @@ class Path:
     ) -> Path:
         """From the name of a file, or from lines, of a table with a head.
 
-        `values` are "levels", "log" for levels of which the logarithm is to be taken (as the nearest float), or
+        `values` are "levels", "log" for levels of which the logarithm is to be taken (as a float, by `math.log`), or
         "increments", each of which stands at its time. `missing` tells what becomes of a line without a value:
         "skip", "hold" the value before, or "fail". Empty lines and lines that begin with # are passed over.
         `form` is the form of dates as strptime has it; ISO dates need none.
@@ -271,16 +271,16 @@ class Path:
     def scales(
         self, depth: int, kind: str = "sig", longest: int | None = None, program: Program | None = None
     ) -> tuple[Fraction, ...]:
-        """For each channel the greatest of 1, 2, 5, 10, 20 and so on for which any `longest` steps in a row fit,
-        and all without it; or a lesser one that is exact.
+        """For each channel the greatest of 1, 2 and 5 times a power of ten for which any `longest` steps in a row
+        fit, and all without it; or a lesser one that is exact.
         """
         greatest = self._greatest_scales(room(len(self.channels), depth, kind, program), longest)
         exact_scales = map(_exact_scale, zip(*(sample.levels for sample in self.samples)))
         return tuple(min(scale, exact_scale or scale) for scale, exact_scale in zip(greatest, exact_scales))
 
     def _greatest_scales(self, limit: int, longest: int | None) -> list[Fraction]:
-        """For each channel the greatest of 1, 2, 5, 10 and so on that fits a weight: all have the same share of it,
-        and each step of rounded levels is at most 1 longer than the exact one.
+        """For each channel the greatest of 1, 2 and 5 times a power of ten that fits a weight: all have the same
+        share of it, and each step of rounded levels is at most 1 longer than the exact one.
         """
         steps = min(longest or len(self.samples), len(self.samples))
         space = Fraction(min(limit, LARGEST_ENTRY) - steps, len(self.channels))
@@ -444,7 +444,7 @@ def _unit_of_dates(times: Sequence[Fraction]) -> int:
 
 
 def _greatest_scale(column: Sequence[Fraction], steps: int, space: Fraction) -> Fraction:
-    """The greatest of 1, 2, 5, 10 and so on for which any so many steps in a row stay in the space."""
+    """The greatest of 1, 2 and 5 times a power of ten for which any so many steps in a row stay in the space."""
     total = _heaviest([abs(b - a) for a, b in pairwise(column)], steps) or Fraction(1)
     power = math.floor(math.log10(space / total)) + 1
     scales = (factor * Fraction(10) ** exponent for exponent in range(power, power - 4, -1) for factor in (5, 2, 1))

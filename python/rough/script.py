@@ -18,6 +18,7 @@ from .values import LogSignature, Scale, Signature, Told
 TICKS = 65536  # in a unit of time
 LAST_TICK = TICKS * TICKS
 MOST_PARTS = 64  # of a partition in one line
+MOST_WATCHES = 64
 
 Log = TypeVar("Log")
 Whole = TypeVar("Whole")
@@ -174,6 +175,12 @@ def parts_line(ticks: Sequence[int], resolution: int, at: int) -> str:
     return f"parts {resolution} {at} {' '.join(map(time_text, ticks))}"
 
 
+def watch_line(start: int, stop: int, resolution: int = 16) -> str:
+    """The line that watches the interval from one tick up to another."""
+    check_query("sig", start, stop, resolution)
+    return f"watch {time_text(start)} {time_text(stop)} {resolution}"
+
+
 def commands_in(line: str) -> int:
     """How many commands a line stands for: one, but a line `parts` one for each of its times."""
     return max(1, len(line.split()) - 3) if line.lstrip().startswith("parts") else 1
@@ -252,6 +259,16 @@ class Script:
         check_shape(width, depth)
         self.width, self.depth, self.scale = width, depth, scales_of(scale, width)
         self.sessions: list[Session] = []
+        self.watches: list[str] = []  # their lines
+
+    def watch(self, start: Any, stop: Any, resolution: int = 16) -> int:
+        """Watches the times from `start` up to `stop`, which is left out; answers the number of the watch, from 1:
+        `run.touched(number)` has the versions that touch them.
+        """
+        if len(self.watches) == MOST_WATCHES:
+            raise ValueError(f"a script watches at most {MOST_WATCHES} intervals")
+        self.watches.append(watch_line(tick_of(start), tick_of(stop), resolution))
+        return len(self.watches)
 
     def session(self) -> Session:
         """The next session."""
@@ -259,7 +276,7 @@ class Script:
         return self.sessions[-1]
 
     def __str__(self) -> str:
-        lines = [f"shape {self.width} {self.depth}"]
+        lines = [f"shape {self.width} {self.depth}", *self.watches]
         for session in self.sessions:
             lines += [f"session {session.number}", *session.lines]
         return "\n".join(lines) + "\n"
@@ -272,19 +289,26 @@ class Script:
         return Run(self, program.run(str(self).encode("ascii"), words), cache, program)
 
 
+def _numbers(text: str) -> list[int]:
+    """Numbers with commas between, or none."""
+    return [] if text == "none" else list(map(int, text.split(",")))
+
+
 Answer = int | Signature | LogSignature | Refusal
 
 
 class Run:
     """The answers of a run: `run[handle]` is a version, a Signature or a LogSignature; a refusal is raised.
 
-    `order` has the session of each step, and `versions` the last version.
+    `order` has the session of each step, `versions` the last version, and `touched(n)` the versions that touch the
+    n-th watch.
     """
 
     def __init__(self, script: Script, text: str, cache: int | None = None, program: Program | None = None) -> None:
         self.script, self.text = script, text
         self.order: list[int] = []
         self.versions = 0
+        self._touched: list[list[int]] = []
         self._cache, self._program = cache, program
         self._lines = text.split("\n")
         self._places: dict[Handle, int] = {}
@@ -295,10 +319,12 @@ class Run:
                 self._places[Handle(session, int(first))] = place
             elif first == "session":
                 session = int(rest)
-            elif first == "order" and rest != "none":
-                self.order = list(map(int, rest.split(",")))
+            elif first == "order":
+                self.order = _numbers(rest)
             elif first == "versions":
                 self.versions = int(rest)
+            elif first == "watch":
+                self._touched.append(_numbers(rest.split(" ")[-1]))
 
     def answer(self, handle: Handle) -> Answer:
         """The answer to a command; a refusal is answered, and not raised."""
@@ -319,6 +345,12 @@ class Run:
         if refusal is None:
             raise ValueError(f"an answer of an unknown form: {self._lines[place]}")
         return refusal
+
+    def touched(self, watch: int) -> list[int]:
+        """The versions that touch a watch, by its number from 1: those whose edit lies in its interval."""
+        if not 1 <= watch <= len(self._touched):
+            raise IndexError(f"there are {len(self._touched)} watches, and no watch {watch}")
+        return self._touched[watch - 1]
 
     def __getitem__(self, handle: Handle) -> int | Signature | LogSignature:
         answer = self.answer(handle)

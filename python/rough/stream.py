@@ -15,6 +15,7 @@ from .faults import NameTaken, NoRow, NoVersion, Overflow, Refusal
 from .program import Program
 from .script import (
     MOST_PARTS,
+    MOST_WATCHES,
     Answer,
     Handle,
     Partition,
@@ -213,6 +214,19 @@ class Stream:
         """The versions whose edit lies in the interval: from one to the next its values stay the same."""
         first, last = tick_of(start), tick_of(stop)
         return [version for version, edit in enumerate(self._edits, 1) if first <= edit.tick < last]
+
+    def watch(self, intervals: Iterable[tuple[Any, Any]], resolution: int = 16) -> list[list[int]]:
+        """For each interval the versions whose edit lies in it, as the program tells them, 64 intervals in a run; both
+        ends are rounded down at the resolution.
+        """
+        asked = list(intervals)
+        touched: list[list[int]] = []
+        for first in range(0, len(asked), MOST_WATCHES):
+            script = self.script()
+            watches = [script.watch(start, stop, resolution) for start, stop in asked[first : first + MOST_WATCHES]]
+            run = script.run(cache=self._cache, program=self._program)
+            touched += map(run.touched, watches)
+        return touched
 
     def wide_signature(self, start: Any, stop: Any) -> Signature:
         """The signature of an interval whose rows may not fit in 127 bits: the program answers for parts that fit,

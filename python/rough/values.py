@@ -226,7 +226,8 @@ class Signature(Value):
 class LogSignature(Value):
     """Keys are members of the Hall set, as texts, `log["[1,2]"]`, or as nested pairs, `log[1, 2]` and `log[1]`.
 
-    Other packages have other bases, or other signs: compare by `expand()`.
+    Other packages have other bases, in members or in signs (a Lyndon basis, say): compare by `expand()`, which has the
+    coefficient at each word.
     """
 
     _is_log, _first_level = True, 1

@@ -69,6 +69,22 @@ def check_partition(seed: int, width: int, depth: int, program: rough.Program | 
     assert {value.version for value in (*logs, whole)} == {at}, at
 
 
+def check_watches(seed: int, width: int, depth: int, program: rough.Program | None = None) -> None:
+    """The versions that touch random intervals are those between which the rows of the interval differ, or at which a
+    row was corrected to what it was.
+    """
+    draw = random.Random(-seed)
+    stream, versions = edited_stream(seed, width, depth, program)
+    intervals = [sorted(Fraction(draw.randrange(5 * 2**16), 2**16) for _ in range(2)) for _ in range(6)]
+    resolution = draw.choice([0, 2, 16])
+    for (start, stop), touched in zip(intervals, stream.watch(map(tuple, intervals), resolution), strict=True):
+        rows = [rows_in(version, start, stop, resolution) for version in versions]
+        differ = {version for version, (before, after) in enumerate(pairwise(rows), 1) if before != after}
+        assert differ <= set(touched), (start, stop)
+        ends = [end - end % Fraction(1, 2**resolution) for end in (start, stop)]
+        assert touched == stream.changes(*ends), (start, stop)
+
+
 def nonzero(terms: dict[Word, Fraction]) -> dict[Word, Fraction]:
     """The coefficients that aren't 0."""
     return {word: x for word, x in terms.items() if x}

@@ -67,7 +67,7 @@ class Scripts(unittest.TestCase):
 
     def test_mends(self):
         for line, mend in (
-            ("part 16 0 0 1", "`part` is none of shape, session, append, correct, remove, sig, log and parts"),
+            ("part 16 0 0 1", "`part` is none of shape, session, append, correct, remove, sig, log, parts and watch"),
             ("parts 16 0 1", "it hasn't the words that are due: parts resolution version, and 2 to 65 times"),
             ("parts 16 0 1 2 3/2", "times of `parts` may be equal, and never fall"),
         ):

@@ -1,4 +1,4 @@
-"""A program that lies in one number, or reads a partition otherwise, is caught by the checks."""
+"""A program that lies in one number, or reads a partition or a watch otherwise, is caught by the checks."""
 
 import re
 import unittest
@@ -6,7 +6,7 @@ from collections.abc import Callable
 from itertools import pairwise
 
 import rough
-from agreement import check_answers, check_partition, check_weight
+from agreement import check_answers, check_partition, check_watches, check_weight
 
 
 class Liar(rough.Program):
@@ -86,7 +86,12 @@ class Lies(unittest.TestCase):
             with self.assertRaises(AssertionError, msg=name):
                 check_partition(1, 2, 3, Reader(reading))
 
+    def test_version_of_a_watch(self):
+        with self.assertRaises(AssertionError):
+            check_watches(1, 2, 3, Liar(r"(watch \d+ versions )(\d+)"))
+
     def test_truth(self):
+        check_watches(1, 2, 3)
         check_answers(1, 2, 3, Liar("(nothing)(0)"))
         check_partition(1, 2, 3, Reader(as_due))
 

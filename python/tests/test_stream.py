@@ -53,6 +53,32 @@ class Listener(rough.Program):
         return super().run(script, words)
 
 
+class Watches(unittest.TestCase):
+    def test_versions(self):
+        stream = rough.Stream.from_increments([[5], [7]], times=["1/2", 1], depth=1)
+        stream.correct("r1", [6])
+        stream.remove("r2")
+        self.assertEqual(stream.watch([(0, 1), (1, 2), (2, 3)]), [[1, 3], [2, 4], []])
+        self.assertEqual(stream.watch([("1/4", "3/4")], resolution=0), [[]])
+        self.assertEqual(stream.watch([(0, 1)] * 65), [[1, 3]] * 65)
+        self.assertEqual(stream.watch([]), [])
+
+    def test_of_a_script(self):
+        script = rough.Script(1, 1)
+        self.assertEqual([script.watch(0, 1), script.watch("3/2", 2, 1)], [1, 2])
+        script.session().append("a", 0, [1])
+        script.session().append("b", "3/2", [1])
+        self.assertEqual(str(script).splitlines()[1:3], ["watch 0 1 16", "watch 3/2 2 1"])
+        run = script.run()
+        self.assertEqual(sorted([run.touched(1), run.touched(2)]), [[1], [2]])
+        self.assertEqual(run.replay().touched(2), run.touched(2))
+        self.assertRaises(IndexError, run.touched, 3)
+        self.assertRaises(ValueError, script.watch, 2, 1)
+        for _ in range(62):
+            script.watch(0, 1)
+        self.assertRaises(ValueError, script.watch, 0, 1)
+
+
 class Partitions(unittest.TestCase):
     def test_values(self):
         stream = rough.Stream.from_increments(walk(20, 2), depth=4, scale=[2, 10])

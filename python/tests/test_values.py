@@ -4,7 +4,7 @@ import unittest
 from fractions import Fraction
 
 import rough
-from agreement import check_answers, check_partition, check_weight
+from agreement import check_answers, check_partition, check_watches, check_weight
 from chen import chen, logarithm, walk
 
 try:
@@ -25,6 +25,7 @@ class Agreement(unittest.TestCase):
     def test_partitions(self):
         for seed, (width, depth) in enumerate([(1, 8), (2, 1), (2, 5), (3, 3), (5, 2)], 1):
             check_partition(seed, width, depth)
+            check_watches(seed, width, depth)
 
     def test_weight_of_lie_elements(self):
         for entries in ([60097, 0], [0, 0, 225720577], [1000, -70000, 7, 10**13, 5], [3, 4, 5, 6, 7, 10**16, 1, 2]):
