@@ -1,6 +1,6 @@
 -- A run has no more answers than the script has commands.
-use Rattle.std.proofs.Common.{◌≡◌, ℕ, zero, suc, ◌+◌, ◌-◌, ◌≤◌, List, [], ◌∷◌, ◌++◌, length, get_or, set, refl, ap, subst, arith}
-use Rattle.std.specs.Prelude.{Option, Some, None, sum_by}
+use Rattle.std.proofs.Common.{◌≡◌, ◌∙◌, ℕ, zero, suc, ◌+◌, ◌-◌, ◌≤◌, List, [], ◌∷◌, ◌++◌, length, get_or, set, refl, ap, subst, arith}
+use Rattle.std.specs.Prelude.{Option, Some, None, sum_by, map, take}
 use Rattle.std.proofs.lemmas.List.{length-append}
 use Rattle.std.proofs.lemmas.List.Sums.{sum_by-cons}
 use Rattle.std.proofs.lemmas.List.Folds.{sum_by-replicate}
@@ -12,7 +12,7 @@ use Rattle.script_reader.specs.Script.{ScriptValue, IsScript}
 use Rattle.book.specs.Play.{Request, PendingLook, Settling, pending_of}
 use Rattle.session.specs.declared.answer.Answer.{Answer}
 use Rattle.session.specs.declared.answer.Outcome.{Outcome}
-use Rattle.session.specs.Play.{Due, Run, opening_run, stepped, next_request, next_of, request_for, answers_to, of_session, with_request, with_next, run_in, due_outcome}
+use Rattle.session.specs.Play.{Due, Run, opening_run, stepped, next_request, next_of, request_for, takes, answer_to, answers_at, of_session, with_request, with_next, run_in, due_outcome}
 use Rattle.session.specs.Answers.{ShowsEach, ShowsAll, IsOutcome}
 
 -- the commands that are left, and the answers so far
@@ -29,10 +29,20 @@ answers-come (before ∷ transcripts) (suc i) dues =
 
 -- ---- a step
 module _ (capacity : ℕ) (extent : Extent) (session : ℕ) (run : Run) where
+  -- one answer is due to a command
+  one-due : (request : Request) (command : Command) (rest : List Command) → takes request ≡ 1 → of_session session run.left ≡ command ∷ rest
+      → length (answers_at extent run.state (of_session session run.left) request) ≡ 1
+  one-due request command rest one e =
+      ap (λ (left : List Command). length (answers_at extent run.state left request)) e ∙ ap (λ (n : ℕ). length (map (answer_to extent run.state) (take n (command ∷ rest)))) one
+
   command-answered : (command : Command) (rest : List Command) → of_session session run.left ≡ command ∷ rest
       → commands_and_answers (with_request capacity extent session (request_for extent session command) run) ≤ commands_and_answers run
-  command-answered (commands.Edit edit) rest e = omega (arith, command-taken run.left (session - 1) (commands.Edit edit) rest e, answers-come run.transcripts (session - 1) (answers_to extent run.state (request_for extent session (commands.Edit edit))))
-  command-answered (commands.Ask ask) rest e = omega (arith, command-taken run.left (session - 1) (commands.Ask ask) rest e, answers-come run.transcripts (session - 1) (answers_to extent run.state (request_for extent session (commands.Ask ask))))
+  command-answered (commands.Edit edit) rest e =
+      let request : Request = request_for extent session (commands.Edit edit) in
+      omega (arith, command-taken run.left (session - 1) (commands.Edit edit) rest e, answers-come run.transcripts (session - 1) (answers_at extent run.state (of_session session run.left) request), one-due request (commands.Edit edit) rest refl e)
+  command-answered (commands.Ask ask) rest e =
+      let request : Request = request_for extent session (commands.Ask ask) in
+      omega (arith, command-taken run.left (session - 1) (commands.Ask ask) rest e, answers-come run.transcripts (session - 1) (answers_at extent run.state (of_session session run.left) request), one-due request (commands.Ask ask) rest refl e)
 
   request-answered : (pending : Option PendingLook) (left : List Command) (request : Request) → of_session session run.left ≡ left → next_of extent session pending left ≡ Some request
       → commands_and_answers (with_request capacity extent session request run) ≤ commands_and_answers run

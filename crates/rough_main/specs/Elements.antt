@@ -6,12 +6,12 @@ use Rattle.definitions.specs.Signature.{signature, weight}
 use Rattle.definitions.specs.Logarithm.{logarithm}
 use Rattle.lie_bracket.specs.declared.term.Term.{Term}
 use Rattle.dynkin_map.specs.Coordinates.{coordinates}
-use Rattle.script_reader.specs.declared.command.Kind.TheVariants.{Log}
 use Rattle.script_reader.specs.declared.fault.ScriptFault.{ScriptFault}
 use Rattle.cbh_calc.specs.Elements.{Elements}
 use Rattle.book.specs.declared.query.Allowed.{Allowed}
 use Rattle.book.specs.declared.query.Allowed.TheVariants as allowed
 use Rattle.book.specs.Play.{fits_from}
+use Rattle.session.specs.declared.asked.Wanted.TheVariants.{Logarithm}
 use Rattle.session.specs.Play.{allowed_for}
 use Rattle.session.specs.Logarithms.{ExpandsTo}
 use Rattle.answers.specs.declared.cbh.CbhResult.{CbhResult}
@@ -27,7 +27,7 @@ product_by (allowed.Fits factors) extent moves =
 
 -- so it is with the bound that logarithms of rows have
 abbrev pub product_due : Extent → List Parts → CbhResult
-product_due extent moves = product_by (allowed_for extent Log) extent moves
+product_due extent moves = product_by (allowed_for extent Logarithm) extent moves
 
 -- the text of a list: the shape, the number of elements, and the levels of the logarithm
 abbrev pub list_text : Elements → List ℕ

@@ -6,13 +6,13 @@ use Rattle.std.proofs.lemmas.List.{get_or-replicate, length-replicate}
 use Rattle.definitions.specs.Words.{Extent, IsShape}
 use Rattle.definitions.specs.Signature.{limit, Fits}
 use Rattle.dynkin_map.specs.Coordinates.{lie_bounds}
-use Rattle.script_reader.specs.declared.command.Kind.TheVariants.{Log}
 use Rattle.basis_cell.specs.Faults.{AreLight}
 use Rattle.book.specs.declared.query.Allowed.TheVariants as allowed
 use Rattle.book.specs.declared.step.LookReply.TheVariants.{Overflow}
 use Rattle.book.specs.Play.{fits_from, weighed, refused_by}
 use Rattle.book.specs.Looks.{AllowsSignatures}
 use Rattle.book.proofs.FitLaws.{weighed-over}
+use Rattle.session.specs.declared.asked.Wanted.TheVariants.{Logarithm}
 use Rattle.session.specs.Play.{allowed_by}
 use Rattle.session.specs.Answers.{IsAllowed}
 use Rattle.dynkin_map.proofs.BoundLaws.{fits-signature}
@@ -51,6 +51,6 @@ pub table-signatures : (extent : Extent) → IsShape extent → AllowsSignatures
 table-signatures extent shape v test = fits-signature extent v shape.some_depth shape.within_depth (tested-fits (lie_bounds extent) v test)
 
 -- ---- logarithms
--- rows that the query for a logarithm doesn't refuse fit the factors of the table
-pub allowed-fits : (extent : Extent) (v : ℕ) → AreLight extent → IsAllowed extent Log v → Fits (lie_bounds extent) v
+-- rows that a look for a logarithm doesn't refuse fit the factors of the table
+pub allowed-fits : (extent : Extent) (v : ℕ) → AreLight extent → IsAllowed extent Logarithm v → Fits (lie_bounds extent) v
 allowed-fits extent v light is = unrefused-fits (lie_bounds extent) v (sym (ap₂ (λ p l. refused_by (allowed_by p l (lie_bounds extent)) v) light.pairs light.levels) ∙ is)

@@ -8,7 +8,6 @@ use Rattle.solve.specs.Works.{WorkValue}
 use Rattle.solve.specs.Solutions.{AreSolved}
 use Rattle.solve.specs.declared.solution.Solved.{Solved}
 use Rattle.versions.specs.Versions.{LogValue}
-use Rattle.script_reader.specs.declared.command.Ask.{Ask}
 use Rattle.book.specs.declared.query.Query.{Query}
 use Rattle.book.specs.declared.step.LookReply.{LookReply}
 use Rattle.book.specs.declared.step.LookReply.TheVariants as replies
@@ -23,6 +22,7 @@ use Rattle.book.proofs.MissLaws.{missed-are, exps-are}
 use Rattle.book.proofs.PlanLaws.{settled-by}
 use Rattle.book.proofs.StateLaws.{state-push}
 use Rattle.session.specs.declared.answer.Answer.TheVariants as answers
+use Rattle.session.specs.declared.asked.Asked.{Asked}
 use Rattle.session.specs.declared.look.Looked.{Looked}
 use Rattle.session.specs.Play.{Due, query_for, valued, unless, looked}
 use Rattle.session.specs.Answers.{Shows}
@@ -78,47 +78,47 @@ module _ (session : ℕ) (q : Query) (old new : BookValue) (book : new ≡ with_
 
 -- ---- a look that gives a work
 -- the look of an answered query and its work, at the book that the session found
-pub record IsAsked (extent : Extent) (session : ℕ) (ask : Ask) (old : BookValue) (work : WorkValue) : Type 0 where
+pub record IsAsked (extent : Extent) (session : ℕ) (asked : Asked) (old : BookValue) (work : WorkValue) : Type 0 where
   -- the query is of the book's extent
   pub extent_is : extent ≡ old.extent
   -- the session may do a step
   pub ready : IsReady old session
   -- the look isn't refused
-  pub unrefused_is : look_refusal (state_of old).edits (query_for extent ask) ≡ None
+  pub unrefused_is : look_refusal (state_of old).edits (query_for extent asked) ≡ None
   -- the work is that of the query
-  pub work_is : IsWorkOf extent (state_of old) (query_for extent ask) work
+  pub work_is : IsWorkOf extent (state_of old) (query_for extent asked) work
 
 -- a look that gave a work is one
-pub asked-work : (extent : Extent) (session : ℕ) (ask : Ask) (old : BookValue) (looked : Looked) (work : WorkValue) → IsLookedFor extent session ask old looked → looked.look ≡ Work work
-    → IsAsked extent session ask old work
-asked-work extent session ask old looked work is look_is =
-    let known : IsLook old.extent (state_of old) (query_for extent ask) (Work work) = subst (IsLook old.extent (state_of old) (query_for extent ask)) look_is is.looked_is.gives in
+pub asked-work : (extent : Extent) (session : ℕ) (asked : Asked) (old : BookValue) (looked : Looked) (work : WorkValue) → IsLookedFor extent session asked old looked → looked.look ≡ Work work
+    → IsAsked extent session asked old work
+asked-work extent session asked old looked work is look_is =
+    let known : IsLook old.extent (state_of old) (query_for extent asked) (Work work) = subst (IsLook old.extent (state_of old) (query_for extent asked)) look_is is.looked_is.gives in
     record {
       extent_is = is.extent_is;
       ready = is.ready;
       unrefused_is = known.0;
-      work_is = subst (λ (e : Extent). IsWorkOf e (state_of old) (query_for extent ask) work) (sym is.extent_is) known.1;
+      work_is = subst (λ (e : Extent). IsWorkOf e (state_of old) (query_for extent asked) work) (sym is.extent_is) known.1;
     }
 
-module _ (extent : Extent) (session : ℕ) (ask : Ask) (old : BookValue) (work : WorkValue) (is : IsAsked extent session ask old work) where
-  abbrev asked : Query
-  asked = query_for extent ask
+module _ (extent : Extent) (session : ℕ) (asked : Asked) (old : BookValue) (work : WorkValue) (is : IsAsked extent session asked old work) where
+  abbrev q : Query
+  q = query_for extent asked
 
   abbrev new : BookValue
-  new = with_request (Looking session asked) old
+  new = with_request (Looking session q) old
 
   -- where the look is pending, its solution is the one that is kept
   pub asked-solved : (solved : Solved) (kept : Option Solved) → AreSolved extent (all_missed work.plans) solved.nodes.items
       → (is_some (pending_of session (state_of new).pending) ≡ true → kept ≡ Some solved) → IsSolvedFor (log_of new) (pending_of session (state_of new).pending) kept
   asked-solved solved kept are beside =
-      solved-answered session asked old new refl is.unrefused_is is.ready work solved kept (subst (λ (e : Extent). IsWorkOf e (state_of old) asked work) is.extent_is is.work_is)
+      solved-answered session q old new refl is.unrefused_is is.ready work solved kept (subst (λ (e : Extent). IsWorkOf e (state_of old) q work) is.extent_is is.work_is)
       (subst (λ (e : Extent). AreSolved e (all_missed work.plans) solved.nodes.items) is.extent_is are) beside
 
   -- the rows that are exponentiated are those of the plans
-  pub asked-exps : sum_by plans.exps_of work.plans ≡ exps_for (state_of old) asked
+  pub asked-exps : sum_by plans.exps_of work.plans ≡ exps_for (state_of old) q
   asked-exps =
-      exps-are extent (state_of old).edits (looked_version (state_of old).edits asked) (look_walk (state_of old) asked) work.plans is.work_is.plans
-      ∙ sym (ap (λ (refusal : Option LookReply). exps_unless refusal (sum_by exps_of (look_walk (state_of old) asked))) is.unrefused_is)
+      exps-are extent (state_of old).edits (looked_version (state_of old).edits q) (look_walk (state_of old) q) work.plans is.work_is.plans
+      ∙ sym (ap (λ (refusal : Option LookReply). exps_unless refusal (sum_by exps_of (look_walk (state_of old) q))) is.unrefused_is)
 
 -- ---- a look that is refused
 -- without a work there is a refusal
@@ -141,9 +141,9 @@ refusal-is extent state q (Pair a b) refused is = (replies.Pair a b, is)
 refusal-is extent state q (Level k) refused is = (replies.Level k, is)
 refusal-is extent state q (Overflow v) refused is = (replies.Overflow v, is)
 
-module _ (extent : Extent) (session : ℕ) (ask : Ask) (old : BookValue) (look : Looked) (refused : IsRefusal look.look) (is : IsLookedFor extent session ask old look) where
+module _ (extent : Extent) (session : ℕ) (asked : Asked) (old : BookValue) (look : Looked) (refused : IsRefusal look.look) (is : IsLookedFor extent session asked old look) where
   abbrev asked_for : Query
-  asked_for = query_for extent ask
+  asked_for = query_for extent asked
 
   abbrev refused_book : BookValue
   refused_book = with_request (Looking session asked_for) old
@@ -152,9 +152,9 @@ module _ (extent : Extent) (session : ℕ) (ask : Ask) (old : BookValue) (look :
   refusal = refusal-is old.extent (state_of old) asked_for look.look refused is.looked_is.gives
 
   -- the answer of a refused look is the refusal that is due
-  pub refused-shows : Shows extent (answers.Refused look.reply) (looked extent (state_of old) asked_for)
+  pub refused-shows : Shows extent (answers.Refused look.reply) (looked extent (state_of old) asked.wanted asked_for)
   refused-shows =
-      let due : Due = valued extent ask.kind (found (state_of old) asked_for) (looked_rows (state_of old).edits asked_for) in
+      let due : Due = valued extent asked.wanted (found (state_of old) asked_for) (looked_rows (state_of old).edits asked_for) in
       subst (Shows extent (answers.Refused look.reply)) (sym (ap (λ (r : Option LookReply). unless r due) refusal.1))
       (is.looked_is.reply_is ∙ ap (λ (r : Option LookReply). unwrap_or r (found (state_of old) asked_for)) refusal.1)
 

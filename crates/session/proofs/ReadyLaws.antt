@@ -1,6 +1,6 @@
 -- What a session that has anything to do does next, and what its step requires.
 use Rattle.std.proofs.Common.{◌≡◌, ◌∙◌, ℕ, suc, ◌-◌, ◌<◌, ◌≤◌, refl, sym, ap, subst, arith, Bool, true, false, List, [], ◌∷◌, length, drop, inl, inr, Option, Some, None}
-use Rattle.std.specs.Prelude.{All, is_some, nat_lt, sum_by, slice_index_or}
+use Rattle.std.specs.Prelude.{All, is_some, nat_lt, map, take, sum_by, slice_index_or}
 use Rattle.std.proofs.Math.Seq.{drop-cons}
 use Rattle.std.proofs.lemmas.Bool.{cases_Bool}
 use Rattle.std.proofs.lemmas.Bool.Decides.{nat_tests}
@@ -14,7 +14,7 @@ use Rattle.script_reader.specs.Script.{ScriptValue, IsScript, IsCommand}
 use Rattle.book.specs.Play.{State, Request, Settling, PendingLook, pending_of, session_of, step_of}
 use Rattle.book.specs.Books.{IsSession, IsReady, state_of, log_of}
 use Rattle.session.specs.declared.run.Run.{Run as TheRun}
-use Rattle.session.specs.Play.{has_next, next_of, next_request, request_for, of_session}
+use Rattle.session.specs.Play.{Due, has_next, next_of, next_request, request_for, takes, answer_to, answers_at, of_session}
 use Rattle.session.specs.Runs.{IsRun, IsAfter, IsAt, IsSolvedFor, HasPlaces, IsPendingSolved, run_of}
 use Rattle.session.proofs.NextLaws.{has_next-none, has_next-left}
 use Rattle.session.proofs.RunLaws.{next-is, is_run-after}
@@ -103,16 +103,31 @@ module _ (script : ScriptValue) (run : TheRun) (session : ℕ) (is_script : IsSc
       next-asked ∙ next-settling script.extent session (pending_of session (state_of run.book).pending) (of_session session (run_of script run.book).left) some
 
   -- the next command is the one after those that were taken
+  next-left : (command : Command) → is_some (pending_of session (state_of run.book).pending) ≡ false
+      → command ≡ slice_index_or (of_session session script.sessions) (slice_index_or run.taken.items (session - 1) 0) command
+      → of_session session (run_of script run.book).left ≡ command ∷ drop (suc (slice_index_or run.taken.items (session - 1) 0)) (of_session session script.sessions)
+  next-left command none at =
+      let t : ℕ = slice_index_or run.taken.items (session - 1) 0 in
+      let commands : List Command = of_session session script.sessions in
+      (is.each session is_session).left ∙ drop-cons commands t command (some-command none) ∙ ap (λ (c : Command). c ∷ drop (suc t) commands) (sym at)
+
+  -- it is asked for
   pub next-commands : (command : Command) → is_some (pending_of session (state_of run.book).pending) ≡ false
       → command ≡ slice_index_or (of_session session script.sessions) (slice_index_or run.taken.items (session - 1) 0) command
       → next_request script.extent session (run_of script run.book) ≡ Some (request_for script.extent session command)
   next-commands command none at =
       let t : ℕ = slice_index_or run.taken.items (session - 1) 0 in
-      let commands : List Command = of_session session script.sessions in
       next-asked
-      ∙ ap (next_of script.extent session (pending_of session (state_of run.book).pending))
-      ((is.each session is_session).left ∙ drop-cons commands t command (some-command none) ∙ ap (λ (c : Command). c ∷ drop (suc t) commands) (sym at))
-      ∙ next-command script.extent session (pending_of session (state_of run.book).pending) command (drop (suc t) commands) none
+      ∙ ap (next_of script.extent session (pending_of session (state_of run.book).pending)) (next-left command none at)
+      ∙ next-command script.extent session (pending_of session (state_of run.book).pending) command (drop (suc t) (of_session session script.sessions)) none
+
+  -- its answer is due alone
+  pub next-dues : (command : Command) (request : Request) → is_some (pending_of session (state_of run.book).pending) ≡ false
+      → command ≡ slice_index_or (of_session session script.sessions) (slice_index_or run.taken.items (session - 1) 0) command → takes request ≡ 1
+      → answer_to script.extent (state_of run.book) command ∷ [] ≡ answers_at script.extent (state_of run.book) (of_session session (run_of script run.book).left) request
+  next-dues command request none at one =
+      let answer : Command → Due = answer_to script.extent (state_of run.book) in
+      sym (ap (λ (n : ℕ). map answer (take n (of_session session (run_of script run.book).left))) one ∙ ap (λ (left : List Command). map answer (take 1 left)) (next-left command none at))
 
   -- the next command is one of the script's, with its ranges
   pub is_command : (command : Command) → is_some (pending_of session (state_of run.book).pending) ≡ false
@@ -123,9 +138,11 @@ module _ (script : ScriptValue) (run : TheRun) (session : ℕ) (is_script : IsSc
       (All-get_or (All (IsCommand script.extent)) script.sessions (session - 1) [] (omega (arith, is_session.some, is_session.within)) is_script.commands))
 
   -- the run keeps its form after the step
-  pub run-after : (extent : Extent) (request : Request) (new : TheRun) → extent ≡ script.extent → session_of (step_of (state_of run.book) request) ≡ session
-      → next_request script.extent session (run_of script run.book) ≡ Some request → IsAfter extent session request run new → IsRun script new
-  run-after extent request new shape of next step = is_run-after script run new session request is is_session of next (subst (λ (e : Extent). IsAfter e session request run new) shape step)
+  pub run-after : (extent : Extent) (request : Request) (dues : List Due) (new : TheRun) → extent ≡ script.extent → session_of (step_of (state_of run.book) request) ≡ session
+      → next_request script.extent session (run_of script run.book) ≡ Some request
+      → dues ≡ answers_at script.extent (state_of run.book) (of_session session (run_of script run.book).left) request → IsAfter extent session request dues run new → IsRun script new
+  run-after extent request dues new shape of next due step =
+      is_run-after script run new session request is is_session of next dues due (subst (λ (e : Extent). IsAfter e session request dues run new) shape step)
 
   -- what is read at the session's place is the command after those that were taken
   pub read-command : (sessions : List (List Command)) (commands list : List Command) (t : ℕ) (read command : Command) → is_some (pending_of session (state_of run.book).pending) ≡ false

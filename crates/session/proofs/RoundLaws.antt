@@ -12,7 +12,7 @@ use Rattle.script_reader.specs.Script.{ScriptValue}
 use Rattle.book.specs.declared.query.Query.{Query}
 use Rattle.book.specs.declared.step.LookReply.{LookReply}
 use Rattle.book.specs.Play.{Request, PendingLook, Settling, pending_of, unless_refused, look_refusal, after_found}
-use Rattle.session.specs.Play.{Run, opening_run, stepped, has_next, has_any, next_request, next_of, request_for, query_for, of_session, with_request, with_next, next_turn, illegal_from, illegal_place, turns_from, most_steps, round_order}
+use Rattle.session.specs.Play.{Run, opening_run, stepped, has_next, has_any, next_request, next_of, request_for, query_for, asked_by, of_session, with_request, with_next, next_turn, illegal_from, illegal_place, turns_from, most_steps, round_order}
 use Rattle.session.specs.Runs.{begun}
 use Rattle.session.proofs.TurnLaws.{turn-is, no-turn-any}
 use Rattle.session.proofs.OrderLaws.{legal-here, turn-here, no-turn}
@@ -64,7 +64,7 @@ module _ (capacity : ℕ) (extent : Extent) (session : ℕ) (run : Run) where
   command-falls (commands.Edit edit) rest e = omega (arith, command-taken run.left (session - 1) (commands.Edit edit) rest e)
   command-falls (commands.Ask ask) rest e =
       let taken = command-taken run.left (session - 1) (commands.Ask ask) rest e in
-      let begins = look-begins (look_refusal run.state.edits (query_for extent ask)) (query_for extent ask) in
+      let begins = look-begins (look_refusal run.state.edits (query_for extent (asked_by ask))) (query_for extent (asked_by ask)) in
       omega (arith, taken, begins)
 
   settle-falls : (look : PendingLook) → pending_of session run.state.pending ≡ Some look → steps_left (with_request capacity extent session (Settling session) run) + 1 ≤ steps_left run

@@ -27,10 +27,10 @@ use Rattle.book.specs.Books.{with_request as book_with}
 use Rattle.book.proofs.StateLaws.{state-push, count-push}
 use Rattle.session.specs.declared.answer.Answer.{Answer}
 use Rattle.session.specs.declared.run.Run.{Run as TheRun}
-use Rattle.session.specs.Play.{Run, Due, of_session, next_of, next_request, left_after, with_next, stepped, opening_run, answers_to}
+use Rattle.session.specs.Play.{Run, Due, of_session, next_of, next_request, left_after, with_next, takes, stepped, opening_run, answers_at}
 use Rattle.session.specs.Play.{with_request as run_with}
 use Rattle.session.specs.Answers.{ShowsEach, HasMembers}
-use Rattle.session.specs.Runs.{IsRun, IsAt, IsAfter, IsSolvedFor, begun, takes, order_of, run_of}
+use Rattle.session.specs.Runs.{IsRun, IsAt, IsAfter, IsSolvedFor, begun, order_of, run_of}
 use Rattle.session.proofs.PendingLaws.{IsLater, IsOfVersion, edits-later, pending-length, pending-of_versions, pending-other}
 
 -- ---- the order and the run
@@ -150,7 +150,8 @@ solved-later extent old new (Some look) (Some solved) later of is =
 -- ---- a step
 module _ (script : ScriptValue) (old new : TheRun) (session : ℕ) (request : Request) (run : IsRun script old) (here : IsSession (length script.sessions) session)
     (of : session_of (step_of (state_of old.book) request) ≡ session) (next : next_request script.extent session (run_of script old.book) ≡ Some request)
-    (step : IsAfter script.extent session request old new) where
+    (dues : List Due) (dues_are : dues ≡ answers_at script.extent (state_of old.book) (of_session session (run_of script old.book).left) request)
+    (step : IsAfter script.extent session request dues old new) where
   -- the new run, by its old book
   abbrev book : BookValue
   book = book_with request old.book
@@ -171,10 +172,11 @@ module _ (script : ScriptValue) (old new : TheRun) (session : ℕ) (request : Re
   asked : next_of script.extent session (pending_of session (state_of old.book).pending) (of_session session before.left) ≡ Some request
   asked = ap (λ (s : State). next_of script.extent session (pending_of session s.pending) (of_session session before.left)) (sym run.state) ∙ sym (next-is script.extent session before here.some) ∙ next
 
-  transcripts-are : (run_of script book).transcripts ≡ slice_set before.transcripts (session - 1) (of_session session before.transcripts ++ answers_to script.extent (state_of old.book) request)
+  transcripts-are : (run_of script book).transcripts ≡ slice_set before.transcripts (session - 1) (of_session session before.transcripts ++ dues)
   transcripts-are =
       ap (λ (r : Run). r.transcripts) run-is
-      ∙ ap (λ (s : State). slice_set before.transcripts (session - 1) (of_session session before.transcripts ++ answers_to script.extent s request)) run.state
+      ∙ ap (λ (s : State). slice_set before.transcripts (session - 1) (of_session session before.transcripts ++ answers_at script.extent s (of_session session before.left) request)) run.state
+      ∙ ap (λ (ds : List Due). slice_set before.transcripts (session - 1) (of_session session before.transcripts ++ ds)) (sym dues_are)
 
   taken-here : slice_index_or new.taken.items (session - 1) 0 ≡ slice_index_or old.taken.items (session - 1) 0 + takes request
   taken-here =
@@ -189,9 +191,9 @@ module _ (script : ScriptValue) (old new : TheRun) (session : ℕ) (request : Re
       let answered : of_session session new.transcripts.items ≡ of_session session old.transcripts.items ++ step.answers =
       ap (of_session session) step.transcripts
       ∙ get_or-set_same old.transcripts.items (session - 1) (of_session session old.transcripts.items ++ step.answers) [] (omega (arith, run.transcripts, here.some, here.within)) in
-      let due : of_session session (run_of script book).transcripts ≡ of_session session before.transcripts ++ answers_to script.extent (state_of old.book) request =
+      let due : of_session session (run_of script book).transcripts ≡ of_session session before.transcripts ++ dues =
       ap (of_session session) transcripts-are
-      ∙ get_or-set_same before.transcripts (session - 1) (of_session session before.transcripts ++ answers_to script.extent (state_of old.book) request) [] (omega (arith, run.answers, here.some, here.within)) in
+      ∙ get_or-set_same before.transcripts (session - 1) (of_session session before.transcripts ++ dues) [] (omega (arith, run.answers, here.some, here.within)) in
       let place : session - 1 < length (state_of old.book).pending = omega (arith, pending-length old.book, run.sessions, here.some, here.within) in
       record {
         left =
@@ -203,7 +205,7 @@ module _ (script : ScriptValue) (old new : TheRun) (session : ℕ) (request : Re
         shows =
             subst (λ (answers : List Answer). ShowsEach script.extent answers (of_session session (run_of script book).transcripts)) (sym answered)
             (subst (ShowsEach script.extent (of_session session old.transcripts.items ++ step.answers)) (sym due)
-            (shows-append script.extent (of_session session old.transcripts.items) step.answers (of_session session before.transcripts) (answers_to script.extent (state_of old.book) request) was.shows step.shows));
+            (shows-append script.extent (of_session session old.transcripts.items) step.answers (of_session session before.transcripts) dues was.shows step.shows));
         members =
             subst (All (HasMembers script.extent)) (sym answered) (All-append (HasMembers script.extent) (of_session session old.transcripts.items) step.answers was.members step.members);
         solved =
@@ -232,7 +234,7 @@ module _ (script : ScriptValue) (old new : TheRun) (session : ℕ) (request : Re
       ∙ get_or-set_other old.transcripts.items (session - 1) (other - 1) (of_session session old.transcripts.items ++ step.answers) [] apart in
       let due : of_session other (run_of script book).transcripts ≡ of_session other before.transcripts =
       ap (of_session other) transcripts-are
-      ∙ get_or-set_other before.transcripts (session - 1) (other - 1) (of_session session before.transcripts ++ answers_to script.extent (state_of old.book) request) [] apart in
+      ∙ get_or-set_other before.transcripts (session - 1) (other - 1) (of_session session before.transcripts ++ dues) [] apart in
       let solved : slice_index_or new.solved.items (other - 1) None ≡ slice_index_or old.solved.items (other - 1) None =
       ap (λ (ss : List (Option Solved)). slice_index_or ss (other - 1) None) step.solved
       ∙ get_or-set_other old.solved.items (session - 1) (other - 1) (slice_index_or new.solved.items (session - 1) None) None apart in
@@ -288,7 +290,7 @@ module _ (script : ScriptValue) (old new : TheRun) (session : ℕ) (request : Re
     left_of = ap (λ (r : Run). length r.left) run-is ∙ left-length session request before.left ∙ run.left_of;
     answers =
         ap length transcripts-are
-        ∙ length-set before.transcripts (session - 1) (of_session session before.transcripts ++ answers_to script.extent (state_of old.book) request) ∙ run.answers;
+        ∙ length-set before.transcripts (session - 1) (of_session session before.transcripts ++ dues) ∙ run.answers;
     each = at-each;
   }
 

@@ -1,9 +1,8 @@
 -- How a session goes on: after an edit, a look, and a look that is settled.
-use Rattle.std.proofs.Common.{◌≡◌, ◌∙◌, ℕ, suc, ◌+◌, ◌-◌, ◌*◌, ◌<◌, ◌≤◌, refl, sym, ap, subst, arith, List, [], ◌∷◌, ◌++◌, length, drop}
-use Rattle.std.specs.Prelude.{All, Option, Some, None}
+use Rattle.std.proofs.Common.{◌≡◌, ◌∙◌, ℕ, suc, ◌+◌, ◌-◌, ◌*◌, ◌<◌, ◌≤◌, refl, sym, ap, subst, arith, List, [], ◌∷◌, ◌++◌, length, drop, append_assoc}
+use Rattle.std.specs.Prelude.{All, map, take, Option, Some, None}
 use Rattle.std.proofs.Math.Seq.{drop-drop}
 use Rattle.std.proofs.lemmas.List.{append-nil, length-append, length-drop}
-use Rattle.std.proofs.lemmas.List.Concat.{flat_map-append}
 use Rattle.std.proofs.lemmas.List.Elements.{All-nil, All-cons, All-append}
 use Rattle.std.proofs.lemmas.List.Sums.{sum_by-cons, sum_by_push, get_or-le-sum_by}
 use Rattle.turnstile.specs.declared.view.PassView.{PassView}
@@ -13,7 +12,6 @@ use Rattle.definitions.specs.Words.{Extent}
 use Rattle.versions.specs.declared.edit.Edit.{Edit}
 use Rattle.versions.specs.declared.edit.EditReply.{EditReply}
 use Rattle.versions.specs.Versions.{edit_reply}
-use Rattle.script_reader.specs.declared.command.Ask.{Ask}
 use Rattle.script_reader.specs.declared.command.Command.{Command}
 use Rattle.script_reader.specs.declared.command.Command.TheVariants as commands
 use Rattle.script_reader.specs.Script.{ScriptValue, IsScript}
@@ -24,9 +22,9 @@ use Rattle.book.specs.Books.{BookValue, IsSession, count_of, state_of, with_requ
 use Rattle.book.proofs.StateLaws.{state-push}
 use Rattle.session.specs.declared.answer.Answer.{Answer}
 use Rattle.session.specs.declared.answer.Answer.TheVariants as answers
-use Rattle.session.specs.Play.{Due, query_for, request_for, looked, next_of, of_session, answers_to}
+use Rattle.session.specs.Play.{Due, request_for, takes, next_of, of_session, answer_to, answers_at}
 use Rattle.session.specs.Answers.{Shows, ShowsEach, HasMembers}
-use Rattle.session.specs.Runs.{units_of, takes}
+use Rattle.session.specs.Runs.{units_of}
 use Rattle.session.specs.Moments.{Moment, moments_of, AreNext, taken_by, dues_of, units_by}
 use Rattle.session.specs.Holds.{book_of, seen_book, pending_in, with_step, CanStep, Adds}
 use Rattle.session.specs.Serving.{IsServing, IsNextCommand}
@@ -37,21 +35,27 @@ use Rattle.session.proofs.RunLaws.{shows-append}
 use Rattle.session.proofs.TakenLaws.{count-own, taken-ready, taken-pending}
 
 -- ---- lists
+drop-taken : (m : Moment) (ms : List Moment) (left : List Command) → drop (taken_by (m ∷ ms)) left ≡ drop (taken_by ms) (drop (takes m.request) left)
+drop-taken m ms left = ap (λ (n : ℕ). drop n left) (sum_by-cons (λ (x : Moment). takes x.request) m ms) ∙ sym (drop-drop (taken_by ms) (takes m.request) left)
+
 next-append : (extent : Extent) (session : ℕ) (left : List Command) (ms : List Moment) (moment : Moment) → AreNext extent session left ms
     → next_of extent session (pending_of session moment.state.pending) (drop (taken_by ms) left) ≡ Some moment.request → AreNext extent session left (ms ++ moment ∷ [])
 next-append extent session left [] moment are next = (next, tt)
-next-append extent session left (m ∷ ms) moment are next =
-    let here : drop (taken_by (m ∷ ms)) left ≡ drop (taken_by ms) (drop (takes m.request) left) =
-    ap (λ (n : ℕ). drop n left) (sum_by-cons (λ (x : Moment). takes x.request) m ms) ∙ sym (drop-drop (taken_by ms) (takes m.request) left) in (
-      are.0,
-      next-append extent session (drop (takes m.request) left) ms moment are.1
-          (subst (λ (rest : List Command). next_of extent session (pending_of session moment.state.pending) rest ≡ Some moment.request) here next),
-    )
+next-append extent session left (m ∷ ms) moment are next = (
+  are.0,
+  next-append extent session (drop (takes m.request) left) ms moment are.1
+      (subst (λ (rest : List Command). next_of extent session (pending_of session moment.state.pending) rest ≡ Some moment.request) (drop-taken m ms left) next),
+)
 
-dues-push : (extent : Extent) (ms : List Moment) (moment : Moment) → dues_of extent (ms ++ moment ∷ []) ≡ dues_of extent ms ++ answers_to extent moment.state moment.request
-dues-push extent ms moment =
-    flat_map-append (λ (m : Moment). answers_to extent m.state m.request) ms (moment ∷ [])
-    ∙ ap (λ (dues : List Due). dues_of extent ms ++ dues) (append-nil (answers_to extent moment.state moment.request))
+dues-push : (extent : Extent) (left : List Command) (ms : List Moment) (moment : Moment)
+    → dues_of extent left (ms ++ moment ∷ []) ≡ dues_of extent left ms ++ answers_at extent moment.state (drop (taken_by ms) left) moment.request
+dues-push extent left [] moment = append-nil (answers_at extent moment.state left moment.request)
+dues-push extent left (m ∷ ms) moment =
+    let first : List Due = answers_at extent m.state left m.request in
+    let rest : List Command = drop (takes m.request) left in
+    ap (λ (dues : List Due). first ++ dues) (dues-push extent rest ms moment)
+    ∙ sym (append_assoc first (dues_of extent rest ms) (answers_at extent moment.state (drop (taken_by ms) rest) moment.request))
+    ∙ ap (λ (commands : List Command). dues_of extent left (m ∷ ms) ++ answers_at extent moment.state commands moment.request) (sym (drop-taken m ms left))
 
 step-by : (state : State) (request : Request) → session_of (step_of state request) ≡ asker request
 step-by state (Editing session edit) = refl
@@ -99,7 +103,7 @@ record HasTaken (script : ScriptValue) (v : PassView Step) (taken : ℕ) (answer
   sessions : (seen_book v).sessions ≡ length script.sessions
   next : AreNext script.extent v.label (of_session v.label script.sessions) (moments_of (seen_book v) v.label)
   taken_is : taken_by (moments_of (seen_book v) v.label) ≡ taken
-  shows : ShowsEach script.extent answered (dues_of script.extent (moments_of (seen_book v) v.label))
+  shows : ShowsEach script.extent answered (dues_of script.extent (of_session v.label script.sessions) (moments_of (seen_book v) v.label))
   members : All (HasMembers script.extent) answered
 
 -- a hold for the session's next request
@@ -130,8 +134,14 @@ module _ (script : ScriptValue) (v w : PassView Step) (taken : ℕ) (answered : 
       ∙ ap (λ (o : Option PendingLook). next_of script.extent v.label o (drop taken all_commands)) (taken-pending v history can adds.taken)
       ∙ next
 
+  dues_are : dues_of script.extent all_commands (moments_of (book_of v.frame (history ++ step ∷ [])) v.label)
+      ≡ dues_of script.extent all_commands before ++ answers_at script.extent met (drop taken all_commands) request
+  dues_are =
+      ap (dues_of script.extent all_commands) moments_are ∙ dues-push script.extent all_commands before moment
+      ∙ ap (λ (n : ℕ). dues_of script.extent all_commands before ++ answers_at script.extent met (drop n all_commands) request) has.taken_is
+
   -- so many commands more were taken then
-  has_taken-more : (more : List Answer) → ShowsEach script.extent more (answers_to script.extent met request) → All (HasMembers script.extent) more
+  has_taken-more : (more : List Answer) → ShowsEach script.extent more (answers_at script.extent met (drop taken all_commands) request) → All (HasMembers script.extent) more
       → HasTaken script w (taken + takes request) (answered ++ more)
   has_taken-more more shows members =
       subst (λ (u : PassView Step). HasTaken script u (taken + takes request) (answered ++ more)) (sym adds.after)
@@ -143,12 +153,20 @@ module _ (script : ScriptValue) (v w : PassView Step) (taken : ℕ) (answered : 
         next = subst (AreNext script.extent v.label all_commands) (sym moments_are) (next-append script.extent v.label all_commands before moment has.next asked);
         taken_is = ap taken_by moments_are ∙ sum_by_push (λ (m : Moment). takes m.request) before moment ∙ ap (λ (n : ℕ). n + takes request) has.taken_is;
         shows =
-            subst (ShowsEach script.extent (answered ++ more)) (sym (ap (dues_of script.extent) moments_are ∙ dues-push script.extent before moment))
-            (shows-append script.extent answered more (dues_of script.extent before) (answers_to script.extent met request) has.shows shows);
+            subst (ShowsEach script.extent (answered ++ more)) (sym dues_are)
+            (shows-append script.extent answered more (dues_of script.extent all_commands before) (answers_at script.extent met (drop taken all_commands) request) has.shows shows);
         members = All-append (HasMembers script.extent) answered more has.members members;
       })
 
 -- ---- the next command
+takes-command : (extent : Extent) (session : ℕ) (command : Command) → takes (request_for extent session command) ≡ 1
+takes-command extent session (commands.Edit edit) = refl
+takes-command extent session (commands.Ask ask) = refl
+
+asker-command : (extent : Extent) (session : ℕ) (command : Command) → asker (request_for extent session command) ≡ session
+asker-command extent session (commands.Edit edit) = refl
+asker-command extent session (commands.Ask ask) = refl
+
 module _ (script : ScriptValue) (v : PassView Step) (taken : ℕ) (answered : List Answer) (serving : IsServing script v taken answered) where
   few-commands : IsScript script → length (of_session v.label script.sessions) ≤ 65536
   few-commands is =
@@ -200,6 +218,14 @@ module _ (script : ScriptValue) (v : PassView Step) (taken : ℕ) (answered : Li
       ap (λ (o : Option PendingLook). next_of script.extent v.label o (drop taken (of_session v.label script.sessions))) serving.served.free
       ∙ ap (next_of script.extent v.label None) next.left
 
+  -- and its answer is due alone
+  command-due : (state : State) (command : Command) → IsNextCommand script v.label taken command
+      → answers_at script.extent state (drop taken (of_session v.label script.sessions)) (request_for script.extent v.label command) ≡ answer_to script.extent state command ∷ []
+  command-due state command next =
+      let answer : Command → Due = answer_to script.extent state in
+      ap (λ (n : ℕ). map answer (take n (drop taken (of_session v.label script.sessions)))) (takes-command script.extent v.label command)
+      ∙ ap (λ (left : List Command). map answer (take 1 left)) next.left
+
   -- after one step or two without a pending look one command more was taken
   serving-more : (w : PassView Step) (answer : Answer) → HasTaken script w (taken + 1) (answered ++ answer ∷ []) → pending_in w ≡ None
       → length (moments_of (seen_book w) w.label) ≤ length (moments_of (seen_book v) v.label) + 2 → IsServing script w (taken + 1) (answered ++ answer ∷ [])
@@ -228,54 +254,47 @@ module _ (script : ScriptValue) (v : PassView Step) (taken : ℕ) (answered : Li
       ∙ ap length (adds-moment u w history request can of adds)
       ∙ length-append (moments_of (seen_book u) u.label) (moment ∷ [])
 
-  -- after an edit, one command more is done
-  pub after-edit : (w : PassView Step) (history : List Step) (edit : Edit) (reply : EditReply) → CanStep v → IsNextCommand script v.label taken (commands.Edit edit)
-      → Adds v w history (Editing v.label edit) → reply ≡ edit_reply (state_of (book_of v.frame history)).edits edit
-      → IsServing script w (taken + 1) (answered ++ answers.Edit reply ∷ [])
-  after-edit w history edit reply can next adds is =
-      serving-more w (answers.Edit reply)
-      (has_taken-more script v w taken answered history (Editing v.label edit) has_taken can refl adds (command-next (commands.Edit edit) next) (answers.Edit reply ∷ []) (is, tt)
-      (All-cons (HasMembers script.extent) (answers.Edit reply) [] tt (All-nil (HasMembers script.extent))))
-      (pending-after v w history (Editing v.label edit) adds ∙ taken-pending v history can adds.taken ∙ serving.served.free)
-      (omega (arith, one-more v w history (Editing v.label edit) can refl adds))
-
-  -- the answer to a look of this session
-  module _ (w : PassView Step) (history : List Step) (ask : Ask) (answer : Answer) (is_script : IsScript script) (next : IsNextCommand script v.label taken (commands.Ask ask))
-      (adds : Adds v w history (Looking v.label (query_for script.extent ask)))
-      (shows : Shows script.extent answer (looked script.extent (state_of (book_of v.frame history)) (query_for script.extent ask)))
+  -- the answer to the session's next command
+  module _ (w : PassView Step) (history : List Step) (command : Command) (answer : Answer) (is_script : IsScript script) (next : IsNextCommand script v.label taken command)
+      (adds : Adds v w history (request_for script.extent v.label command)) (shows : Shows script.extent answer (answer_to script.extent (state_of (book_of v.frame history)) command))
       (members : HasMembers script.extent answer) where
-    look-can : CanStep v
-    look-can = can-step is_script (commands.Ask ask) next
+    abbrev request : Request
+    request = request_for script.extent v.label command
 
-    look-taken : HasTaken script w (taken + 1) (answered ++ answer ∷ [])
-    look-taken =
-        has_taken-more script v w taken answered history (Looking v.label (query_for script.extent ask)) has_taken look-can refl adds (command-next (commands.Ask ask) next) (answer ∷ []) (shows, tt)
-        (All-cons (HasMembers script.extent) answer [] members (All-nil (HasMembers script.extent)))
+    command-can : CanStep v
+    command-can = can-step is_script command next
 
-    look-one : length (moments_of (seen_book w) w.label) ≡ length (moments_of (seen_book v) v.label) + 1
-    look-one = one-more v w history (Looking v.label (query_for script.extent ask)) look-can refl adds
+    command-taken : HasTaken script w (taken + 1) (answered ++ answer ∷ [])
+    command-taken =
+        subst (λ (n : ℕ). HasTaken script w (taken + n) (answered ++ answer ∷ [])) (takes-command script.extent v.label command)
+        (has_taken-more script v w taken answered history request has_taken command-can (asker-command script.extent v.label command) adds (command-next command next) (answer ∷ [])
+        (subst (ShowsEach script.extent (answer ∷ [])) (sym (command-due (state_of (book_of v.frame history)) command next)) (shows, tt))
+        (All-cons (HasMembers script.extent) answer [] members (All-nil (HasMembers script.extent))))
 
-    -- after a look that isn't pending, one command more is done
-    pub after-look : pending_in w ≡ None → IsServing script w (taken + 1) (answered ++ answer ∷ [])
-    after-look none = serving-more w answer look-taken none (omega (arith, look-one))
+    command-one : length (moments_of (seen_book w) w.label) ≡ length (moments_of (seen_book v) v.label) + 1
+    command-one = one-more v w history request command-can (asker-command script.extent v.label command) adds
 
-    -- the look is to be settled
+    -- without a pending look, one command more is done
+    pub after-command : pending_in w ≡ None → IsServing script w (taken + 1) (answered ++ answer ∷ [])
+    after-command none = serving-more w answer command-taken none (omega (arith, command-one))
+
+    -- a pending look may be settled
     pub can-settle : CanStep w
     can-settle =
-        let step : Step = step_of (state_of (book_of v.frame history)) (Looking v.label (query_for script.extent ask)) in
+        let step : Step = step_of (state_of (book_of v.frame history)) request in
         let own : length w.own ≡ length v.own + 1 = ap (λ (u : PassView Step). length u.own) adds.after ∙ length-append v.own (step ∷ []) in
         record {
-          session = record { some = look-taken.session.some; within = omega (arith, look-taken.sessions, look-taken.session.within) };
-          own = look-taken.own;
-          few = omega (arith, own, own-few is_script (commands.Ask ask) next);
+          session = record { some = command-taken.session.some; within = omega (arith, command-taken.sessions, command-taken.session.within) };
+          own = command-taken.own;
+          few = omega (arith, own, own-few is_script command next);
         }
 
-    -- after a look and its settle, one command more is done
+    -- after its settle, one command more is done
     pub after-settle : (u : PassView Step) (later : List Step) → Adds w u later (Settling w.label) → (look : _) → pending_in w ≡ Some look
         → IsServing script u (taken + 1) (answered ++ answer ∷ [])
     after-settle u later settles look pending =
         let settling : HasTaken script u (taken + 1 + 0) ((answered ++ answer ∷ []) ++ []) =
-        has_taken-more script w u (taken + 1) (answered ++ answer ∷ []) later (Settling w.label) look-taken can-settle refl settles
+        has_taken-more script w u (taken + 1) (answered ++ answer ∷ []) later (Settling w.label) command-taken can-settle refl settles
         (ap (λ (o : Option PendingLook). next_of script.extent w.label o (drop (taken + 1) (of_session w.label script.sessions))) pending) [] tt (All-nil (HasMembers script.extent)) in
         let same : taken + 1 + 0 ≡ taken + 1 = omega arith in
         serving-more u answer
@@ -283,4 +302,12 @@ module _ (script : ScriptValue) (v : PassView Step) (taken : ℕ) (answered : Li
         (subst (λ (n : ℕ). HasTaken script u n ((answered ++ answer ∷ []) ++ [])) same settling))
         (pending-after w u later (Settling w.label) settles
         ∙ pending-put (book_of w.frame later) w.label None (taken-ready w later can-settle settles.taken).of_book)
-        (omega (arith, look-one, one-more w u later (Settling w.label) can-settle refl settles))
+        (omega (arith, command-one, one-more w u later (Settling w.label) can-settle refl settles))
+
+  -- after an edit, one command more is done
+  pub after-edit : (w : PassView Step) (history : List Step) (edit : Edit) (reply : EditReply) → IsScript script → IsNextCommand script v.label taken (commands.Edit edit)
+      → Adds v w history (Editing v.label edit) → reply ≡ edit_reply (state_of (book_of v.frame history)).edits edit
+      → IsServing script w (taken + 1) (answered ++ answers.Edit reply ∷ [])
+  after-edit w history edit reply is_script next adds is =
+      after-command w history (commands.Edit edit) (answers.Edit reply) is_script next adds is tt
+      (pending-after v w history (Editing v.label edit) adds ∙ taken-pending v history (can-step is_script (commands.Edit edit) next) adds.taken ∙ serving.served.free)

@@ -10,16 +10,16 @@ use Rattle.book.specs.Books.{BookValue, IsReady, IsFree, state_of, log_of, with_
 use Rattle.book.proofs.StateLaws.{state-push}
 use Rattle.session.specs.declared.answer.Answer.{Answer}
 use Rattle.session.specs.declared.run.Run.{Run as TheRun}
-use Rattle.session.specs.Play.{of_session, answers_to}
-use Rattle.session.specs.Answers.{ShowsEach, HasMembers}
-use Rattle.session.specs.Runs.{IsSolvedFor, takes, IsAfter, HasPlaces}
+use Rattle.session.specs.Play.{Due, of_session, takes}
+use Rattle.session.specs.Answers.{Shows, HasMembers}
+use Rattle.session.specs.Runs.{IsSolvedFor, IsAfter, HasPlaces}
 use Rattle.session.proofs.PlaceLaws.{pending-put, solved-none}
 
 -- ---- settles
 -- what a settle leaves of a run
 pub after-settle : (session : ℕ) (old new : TheRun) → IsReady old.book session → HasPlaces session old → new.book ≡ with_request (Settling session) old.book
     → new.taken.items ≡ old.taken.items → new.solved.items ≡ set old.solved.items (session - 1) None → new.transcripts.items ≡ old.transcripts.items
-    → IsAfter old.book.extent session (Settling session) old new
+    → IsAfter old.book.extent session (Settling session) [] old new
 after-settle session old new ready places book taken solved transcripts =
     let at : ℕ = session - 1 in
     let within : at < length old.solved.items = omega (arith, places.some, places.solved) in
@@ -47,13 +47,13 @@ module _ (extent : Extent) (session : ℕ) (request : Request) (old new : TheRun
   at = session - 1
 
   -- what a command leaves of a run: its answer, one command taken, and the solution beside a pending look
-  pub after-command : takes request ≡ 1 → (answer : Answer) → ShowsEach extent (answer ∷ []) (answers_to extent (state_of old.book) request) → HasMembers extent answer
+  pub after-command : takes request ≡ 1 → (answer : Answer) (due : Due) → Shows extent answer due → HasMembers extent answer
       → (count : ℕ) → count ≡ get_or old.taken.items (session - 1) count → new.taken.items ≡ set old.taken.items (session - 1) (count + 1)
       → (held after : List Answer) → held ≡ get_or old.transcripts.items (session - 1) held → after ≡ held ++ answer ∷ []
       → new.transcripts.items ≡ set old.transcripts.items (session - 1) after
       → (kept : Option Solved) → new.solved.items ≡ set old.solved.items (session - 1) kept → IsSolvedFor (log_of new.book) (pending_of session (state_of new.book).pending) kept
-      → IsAfter extent session request old new
-  after-command one answer shows members count count_is taken held after held_is after_is transcripts kept solved is_solved =
+      → IsAfter extent session request (due ∷ []) old new
+  after-command one answer due shows members count count_is taken held after held_is after_is transcripts kept solved is_solved =
       let kept_is : get_or new.solved.items at None ≡ kept =
       ap (λ (xs : List (Option Solved)). get_or xs at None) solved ∙ get_or-set_same old.solved.items at kept None (omega (arith, places.some, places.solved)) in
       let count_at : count ≡ get_or old.taken.items at 0 = get_or_read old.taken.items at count (omega (arith, places.some, places.taken)) count_is 0 in
@@ -61,7 +61,7 @@ module _ (extent : Extent) (session : ℕ) (request : Request) (old new : TheRun
       record {
         book = book;
         answers = answer ∷ [];
-        shows = shows;
+        shows = (shows, tt);
         members = All-cons (HasMembers extent) answer [] members (All-nil (HasMembers extent));
         transcripts = transcripts ∙ ap (set old.transcripts.items at) (after_is ∙ ap (λ (before : List Answer). before ++ answer ∷ []) held_at);
         taken = taken ∙ ap (set old.taken.items at) (omega (arith, count_at, one));

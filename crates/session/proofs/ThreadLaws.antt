@@ -147,7 +147,7 @@ served-later script v taken answers history serving can found =
       free = taken-pending v history can found ∙ served.free;
       next = subst (AreNext script.extent v.label (of_session v.label script.sessions)) same served.next;
       taken_is = ap taken_by (sym same) ∙ served.taken_is;
-      shows = subst (λ (ms : List Moment). ShowsEach script.extent answers (dues_of script.extent ms)) same served.shows;
+      shows = subst (λ (ms : List Moment). ShowsEach script.extent answers (dues_of script.extent (of_session v.label script.sessions) ms)) same served.shows;
       members = served.members;
       steps = subst (λ (ms : List Moment). length ms ≤ 2 * taken) same served.steps;
     }

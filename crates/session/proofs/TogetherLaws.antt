@@ -14,9 +14,9 @@ use Rattle.book.specs.Play.{State, Request, PendingLook, opening, played, pendin
 use Rattle.book.specs.Seen.{asker}
 use Rattle.book.specs.Books.{BookValue, IsBook, IsSession, state_of}
 use Rattle.session.specs.declared.answer.Answer.{Answer}
-use Rattle.session.specs.Play.{Run, Due, opening_run, run_in, stepped, has_next, has_any, next_request, next_of, of_session, answers_to, with_next, with_request, illegal_from, illegal_place}
+use Rattle.session.specs.Play.{Run, Due, opening_run, run_in, stepped, has_next, has_any, next_request, next_of, of_session, takes, answers_at, with_next, with_request, illegal_from, illegal_place}
 use Rattle.session.specs.Answers.{ShowsEach, HasMembers}
-use Rattle.session.specs.Runs.{IsTold, order_of, run_of, takes}
+use Rattle.session.specs.Runs.{IsTold, order_of, run_of}
 use Rattle.session.specs.Moments.{Moment, own_moment, moments, moments_of, AreNext, taken_by, dues_of}
 use Rattle.session.specs.Serving.{IsServed}
 use Rattle.session.proofs.MomentLaws.{asker-step}
@@ -29,7 +29,7 @@ use Rattle.session.proofs.TurnLaws.{numbers-within}
 record Finishes (capacity : ℕ) (extent : Extent) (dues : List Due) (requests : List Request) (run : Run) (session : ℕ) : Type 0 where
   next : AreNext extent session (of_session session run.left) (moments capacity session run.state requests)
   all : taken_by (moments capacity session run.state requests) ≡ length (of_session session run.left)
-  told : of_session session run.transcripts ++ dues_of extent (moments capacity session run.state requests) ≡ dues
+  told : of_session session run.transcripts ++ dues_of extent (of_session session run.left) (moments capacity session run.state requests) ≡ dues
 
 -- these requests finish a run of so many sessions in this state and with these answers
 record AllFinish (capacity : ℕ) (extent : Extent) (sessions : ℕ) (end : State) (dues : ℕ → List Due) (requests : List Request) (run : Run) : Type 0 where
@@ -71,7 +71,7 @@ module _ (capacity : ℕ) (extent : Extent) (request : Request) (requests : List
     finishes-own here long finishes =
         let commands : List Command = of_session by run.left in
         let answered : List Due = of_session by run.transcripts in
-        let answers : List Due = answers_to extent run.state request in
+        let answers : List Due = answers_at extent run.state commands request in
         let are : AreNext extent by commands (first ∷ later_of by) = subst (AreNext extent by commands) own-first finishes.next in
         let left : of_session by next_run.left ≡ drop (takes request) commands = left-here by request run.left (omega (arith, here.some, here.within)) in
         let transcript : of_session by next_run.transcripts ≡ answered ++ answers =
@@ -88,9 +88,10 @@ module _ (capacity : ℕ) (extent : Extent) (request : Request) (requests : List
                 length-drop (takes request) commands,
               );
           told =
-              ap (λ (transcript : List Due). transcript ++ dues_of extent (later_of by)) transcript
-              ∙ append_assoc answered answers (dues_of extent (later_of by))
-              ∙ ap (λ (ms : List Moment). answered ++ dues_of extent ms) (sym own-first)
+              ap (λ (transcript : List Due). transcript ++ dues_of extent (of_session by next_run.left) (later_of by)) transcript
+              ∙ ap (λ (commands : List Command). (answered ++ answers) ++ dues_of extent commands (later_of by)) left
+              ∙ append_assoc answered answers (dues_of extent (drop (takes request) commands) (later_of by))
+              ∙ ap (λ (ms : List Moment). answered ++ dues_of extent commands ms) (sym own-first)
               ∙ finishes.told;
         }
 
@@ -101,15 +102,16 @@ module _ (capacity : ℕ) (extent : Extent) (request : Request) (requests : List
         let same : moments capacity session run.state (request ∷ requests) ≡ later_of session = others-first session other in
         let left : of_session session next_run.left ≡ of_session session run.left = left-other by request run.left session apart in
         let transcript : of_session session next_run.transcripts ≡ of_session session run.transcripts =
-        get_or-set_other run.transcripts (by - 1) (session - 1) (of_session by run.transcripts ++ answers_to extent run.state request) [] apart in
+        get_or-set_other run.transcripts (by - 1) (session - 1) (of_session by run.transcripts ++ answers_at extent run.state (of_session by run.left) request) [] apart in
         record {
           next =
               subst (λ (commands : List Command). AreNext extent session commands (later_of session)) (sym left)
               (subst (AreNext extent session (of_session session run.left)) same finishes.next);
           all = ap taken_by (sym same) ∙ finishes.all ∙ ap length (sym left);
           told =
-              ap (λ (transcript : List Due). transcript ++ dues_of extent (later_of session)) transcript
-              ∙ ap (λ (ms : List Moment). of_session session run.transcripts ++ dues_of extent ms) (sym same)
+              ap (λ (transcript : List Due). transcript ++ dues_of extent (of_session session next_run.left) (later_of session)) transcript
+              ∙ ap (λ (commands : List Command). of_session session run.transcripts ++ dues_of extent commands (later_of session)) left
+              ∙ ap (λ (ms : List Moment). of_session session run.transcripts ++ dues_of extent (of_session session run.left) ms) (sym same)
               ∙ finishes.told;
         }
 
@@ -143,7 +145,7 @@ module _ (capacity : ℕ) (extent : Extent) (sessions : ℕ) (end : State) (dues
           askers = All-tail (λ request. IsSession sessions (asker request)) request requests finish.askers;
           left = left-length (asker request) request run.left ∙ finish.left;
           transcripts =
-              length-set run.transcripts (asker request - 1) (of_session (asker request) run.transcripts ++ answers_to extent run.state request) ∙ finish.transcripts;
+              length-set run.transcripts (asker request - 1) (of_session (asker request) run.transcripts ++ answers_at extent run.state (of_session (asker request) run.left) request) ∙ finish.transcripts;
           state = finish.state;
           each = each-after;
         })
@@ -193,7 +195,7 @@ module _ (script : ScriptValue) (book : BookValue) (is_book : IsBook book) (tran
   requests = map request_of book.history
 
   abbrev dues : ℕ → List Due
-  dues session = dues_of script.extent (moments_of book session)
+  dues session = dues_of script.extent (of_session session script.sessions) (moments_of book session)
 
   -- before the first step, in the state of the book
   abbrev first_run : Run

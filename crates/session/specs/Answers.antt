@@ -6,8 +6,8 @@ use Rattle.scaled_tensor.specs.Tensors.{TensorValue, coefficient}
 use Rattle.session.specs.declared.answer.Answer.{Answer}
 use Rattle.session.specs.declared.answer.Answer.TheVariants as answers
 use Rattle.session.specs.declared.answer.Outcome.{Outcome}
-use Rattle.script_reader.specs.declared.command.Kind.{Kind}
 use Rattle.versions.specs.Versions.{IsLog}
+use Rattle.session.specs.declared.asked.Wanted.{Wanted}
 use Rattle.book.specs.Play.{refused_by}
 use Rattle.session.specs.Play.{Due, Edited, Valued, Logged, Refused, DueOutcome, allowed_for}
 
@@ -42,9 +42,9 @@ pub record IsOutcome (extent : Extent) (outcome : Outcome) (due : DueOutcome) : 
   pub order : outcome.order.items ≡ due.order
   pub edits : outcome.edits.items ≡ due.edits
 
--- rows of this weight have a value of this kind
-abbrev pub IsAllowed : Extent → Kind → ℕ → Type 0
-IsAllowed extent kind weight = refused_by (allowed_for extent kind) weight ≡ None
+-- rows of this weight have the value that is wanted
+abbrev pub IsAllowed : Extent → Wanted → ℕ → Type 0
+IsAllowed extent wanted weight = refused_by (allowed_for extent wanted) weight ≡ None
 
 -- ---- what printing needs
 -- the numbers of a logarithm are those of members of the extent's Hall set

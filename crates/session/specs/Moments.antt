@@ -1,12 +1,12 @@
 -- What one session does, told from the steps of all.
-use Rattle.std.specs.Prelude.{◌≡◌, ℕ, nat_eq, Bool, if◌then◌else◌, List, [], ◌∷◌, ◌++◌, map, drop, flat_map, sum_by, Some}
+use Rattle.std.specs.Prelude.{◌≡◌, ℕ, nat_eq, Bool, if◌then◌else◌, List, [], ◌∷◌, ◌++◌, map, drop, sum_by, Some}
 use Rattle.definitions.specs.Words.{Extent}
 use Rattle.script_reader.specs.declared.command.Command.{Command}
 use Rattle.book.specs.Play.{State, Request, opening, after, pending_of, request_of}
 use Rattle.book.specs.Seen.{asker}
 use Rattle.book.specs.Books.{BookValue}
-use Rattle.session.specs.Play.{Due, next_of, answers_to}
-use Rattle.session.specs.Runs.{units_of, takes}
+use Rattle.session.specs.Play.{Due, next_of, takes, answers_at}
+use Rattle.session.specs.Runs.{units_of}
 
 -- a request, and the state that it meets
 pub record Moment : Type 0 where
@@ -37,9 +37,10 @@ AreNext extent session left (moment ∷ moments) =
 abbrev pub taken_by : List Moment → ℕ
 taken_by moments = sum_by (λ moment. takes moment.request) moments
 
--- the answers that are due to them
-abbrev pub dues_of : Extent → List Moment → List Due
-dues_of extent moments = flat_map (λ moment. answers_to extent moment.state moment.request) moments
+-- the answers that are due to them, where these commands are left at first
+abbrev pub dues_of : Extent → List Command → List Moment → List Due
+dues_of extent left [] = []
+dues_of extent left (moment ∷ moments) = answers_at extent moment.state left moment.request ++ dues_of extent (drop (takes moment.request) left) moments
 
 -- one unit for each node that they visit, and for each row that is exponentiated
 abbrev pub units_by : List Moment → ℕ

@@ -1,5 +1,5 @@
 -- What a script is due in an order of its sessions: the answer to each command, and the accepted edits.
-use Rattle.std.specs.Prelude.{ℕ, zero, suc, ◌-◌, ◌*◌, Bool, if◌then◌else◌, List, [], ◌∷◌, ◌++◌, drop, take, length, fold, sum_by, replicate, slice_index_or, slice_set, Option, Some, None, is_some, ℤ}
+use Rattle.std.specs.Prelude.{◌≡◌, ℕ, zero, suc, ◌-◌, ◌*◌, Bool, if◌then◌else◌, List, [], ◌∷◌, ◌++◌, map, drop, take, length, fold, sum_by, replicate, slice_index_or, slice_set, Option, Some, None, is_some, ℤ}
 use Rattle.std.specs.List.{find, list_any}
 use Rattle.definitions.specs.Words.{Extent, up_to}
 use Rattle.definitions.specs.Signature.{signature}
@@ -23,6 +23,9 @@ use Rattle.book.specs.declared.query.Allowed.{Allowed}
 use Rattle.book.specs.declared.query.Allowed.TheVariants.{Pair, Level, Fits}
 use Rattle.book.specs.declared.step.LookReply.{LookReply}
 use Rattle.book.specs.Play.{State, Request, Editing, Looking, Settling, PendingLook, opening, after, pending_of, found, look_refusal, looked_rows}
+use Rattle.session.specs.declared.asked.Asked.{Asked}
+use Rattle.session.specs.declared.asked.Wanted.{Wanted}
+use Rattle.session.specs.declared.asked.Wanted.TheVariants.{Signature, Logarithm}
 
 -- ---- what is asked of the book
 -- why there are no tables of a shape, or the bound of a logarithm
@@ -31,19 +34,45 @@ allowed_by (Some pair) level factors = Pair pair.0 pair.1
 allowed_by None (Some level) factors = Level level
 allowed_by None None factors = Fits factors
 
--- what a query may be answered with: factors 1 for a signature, the bounds of the coordinates for a logarithm
-abbrev pub allowed_for : Extent → Kind → Allowed
-allowed_for extent kinds.Sig = Fits (replicate extent.depth 1)
-allowed_for extent kinds.Log = allowed_by (heavy_pair extent.depth (hall_list extent.width extent.depth)) (heavy_level extent) (lie_bounds extent)
+-- what a look may be answered with: factors 1 for a signature, the bounds of the coordinates for a logarithm
+abbrev pub allowed_for : Extent → Wanted → Allowed
+allowed_for extent Signature = Fits (replicate extent.depth 1)
+allowed_for extent Logarithm = allowed_by (heavy_pair extent.depth (hall_list extent.width extent.depth)) (heavy_level extent) (lie_bounds extent)
 
--- the query that a command asks the book
-abbrev pub query_for : Extent → Ask → Query
-query_for extent ask = record { kind = ask.kind; from = ask.from; to = ask.to; r = ask.r; version = ask.version; allowed = allowed_for extent ask.kind }
+-- what the rows are wanted for, where a query is of this kind
+abbrev pub wanted_by : Kind → Wanted
+wanted_by kinds.Sig = Signature
+wanted_by kinds.Log = Logarithm
+
+-- the look that a query asks for
+abbrev pub asked_by : Ask → Asked
+asked_by ask = record { ask = ask; wanted = wanted_by ask.kind }
+
+-- the command asks for this look; an edit asks for none
+abbrev pub Asks : Command → Asked → Type 0
+Asks (commands.Edit edit) asked = ⊥
+Asks (commands.Ask ask) asked = asked ≡ asked_by ask
+
+-- the query of a look to the book
+abbrev pub query_for : Extent → Asked → Query
+query_for extent asked = record {
+  kind = asked.ask.kind;
+  from = asked.ask.from;
+  to = asked.ask.to;
+  r = asked.ask.r;
+  version = asked.ask.version;
+  allowed = allowed_for extent asked.wanted;
+}
 
 -- the request of a command to the book
 abbrev pub request_for : Extent → ℕ → Command → Request
 request_for extent session (commands.Edit edit) = Editing session edit
-request_for extent session (commands.Ask ask) = Looking session (query_for extent ask)
+request_for extent session (commands.Ask ask) = Looking session (query_for extent (asked_by ask))
+
+-- how many commands a request takes; to settle is no command
+abbrev pub takes : Request → ℕ
+takes (Settling session) = 0
+takes _ = 1
 
 -- ---- answers
 -- an answer: a signature is the series of its numerators, a logarithm the list of its nonzero Hall coordinates
@@ -54,9 +83,9 @@ pub data Due : Type 0 where
   Refused : LookReply → Due
 
 -- the value of rows: their signature, or the Hall coordinates of its logarithm
-abbrev pub valued : Extent → Kind → LookReply → List RowValue → Due
-valued extent kinds.Sig reply rows = Valued reply (signature (moves_of rows))
-valued extent kinds.Log reply rows = Logged reply (coordinates extent (logarithm (signature (moves_of rows))))
+abbrev pub valued : Extent → Wanted → LookReply → List RowValue → Due
+valued extent Signature reply rows = Valued reply (signature (moves_of rows))
+valued extent Logarithm reply rows = Logged reply (coordinates extent (logarithm (signature (moves_of rows))))
 
 -- the refusal where there is one
 abbrev pub unless : Option LookReply → Due → Due
@@ -64,14 +93,17 @@ unless None due = due
 unless (Some reply) due = Refused reply
 
 -- the value of the rows of the version in the rounded interval, where they have one
-abbrev pub looked : Extent → State → Query → Due
-looked extent state q = unless (look_refusal state.edits q) (valued extent q.kind (found state q) (looked_rows state.edits q))
+abbrev pub looked : Extent → State → Wanted → Query → Due
+looked extent state wanted q = unless (look_refusal state.edits q) (valued extent wanted (found state q) (looked_rows state.edits q))
 
--- the answer to a request; to settle is no command
-abbrev pub answers_to : Extent → State → Request → List Due
-answers_to extent state (Editing session edit) = Edited (edit_reply state.edits edit) ∷ []
-answers_to extent state (Looking session q) = looked extent state q ∷ []
-answers_to extent state (Settling session) = []
+-- the answer to a command
+abbrev pub answer_to : Extent → State → Command → Due
+answer_to extent state (commands.Edit edit) = Edited (edit_reply state.edits edit)
+answer_to extent state (commands.Ask ask) = looked extent state (wanted_by ask.kind) (query_for extent (asked_by ask))
+
+-- the answers at a session's request, with the commands that are left to it: that to the first, where the request takes one
+abbrev pub answers_at : Extent → State → List Command → Request → List Due
+answers_at extent state left request = map (answer_to extent state) (take (takes request) left)
 
 -- ---- runs
 -- the state of the book, and for each session the commands that are left and the answers so far
@@ -117,7 +149,7 @@ abbrev pub with_request : ℕ → Extent → ℕ → Request → Run → Run
 with_request capacity extent session request run = record {
   state = after capacity run.state request;
   left = left_after session request run.left;
-  transcripts = slice_set run.transcripts (session - 1) (of_session session run.transcripts ++ answers_to extent run.state request);
+  transcripts = slice_set run.transcripts (session - 1) (of_session session run.transcripts ++ answers_at extent run.state (of_session session run.left) request);
 }
 
 -- the run after what the session does next; where it has nothing to do, nothing changes

@@ -1,11 +1,11 @@
 -- What a run keeps while it takes its steps.
-use Rattle.std.specs.Prelude.{◌≡◌, ℕ, ◌+◌, ◌-◌, ◌*◌, ◌≤◌, false, List, [], ◌∷◌, ◌++◌, All, map, drop, length, sum_by, slice_index_or, slice_set, Option, Some, None}
+use Rattle.std.specs.Prelude.{◌≡◌, ℕ, ◌+◌, ◌-◌, ◌*◌, ◌≤◌, false, List, [], ◌∷◌, ◌++◌, All, map, drop, length, sum_by, slice_index_or, slice_set, true, Option, Some, None}
 use Rattle.definitions.specs.Words.{Extent}
 use Rattle.versions.specs.Versions.{LogValue}
 use Rattle.script_reader.specs.Script.{ScriptValue}
 use Rattle.solve.specs.declared.solution.Solved.{Solved}
 use Rattle.book.specs.Walks.{exps_of}
-use Rattle.book.specs.Play.{State, Request, Looking, Settling, PendingLook, pending_of, session_of, look_refusal, look_walk}
+use Rattle.book.specs.Play.{State, Request, Looking, PendingLook, pending_of, session_of, look_refusal, look_walk}
 use Rattle.book.specs.Looks.{look_visits}
 use Rattle.book.specs.declared.query.Query.{Query}
 use Rattle.book.specs.declared.step.LookReply.{LookReply}
@@ -15,7 +15,7 @@ use Rattle.book.specs.Plans.{IsSettlement}
 use Rattle.book.specs.Books.{BookValue, IsSession, count_of, state_of, log_of, with_request}
 use Rattle.session.specs.declared.answer.Answer.{Answer}
 use Rattle.session.specs.declared.run.Run.{Run as TheRun}
-use Rattle.session.specs.Play.{Run, opening_run, run_in, stepped, next_request, of_session, answers_to}
+use Rattle.session.specs.Play.{Run, opening_run, run_in, stepped, Due, has_next, next_request, takes, of_session}
 use Rattle.session.specs.Answers.{ShowsEach, ShowsAll, HasMembers}
 
 -- the order of the steps that were taken
@@ -25,6 +25,10 @@ order_of book = map session_of book.history
 -- the run of the script in the order of the steps that were taken
 abbrev pub run_of : ScriptValue → BookValue → Run
 run_of script book = run_in book.capacity script.extent (order_of book) (opening_run script)
+
+-- the session has anything to do after the steps that were taken
+pub record HasNext (script : ScriptValue) (book : BookValue) (session : ℕ) : Type 0 where
+  pub has : has_next script.extent (run_of script book) session ≡ true
 
 -- a pending look has its solution beside it
 abbrev pub IsSolvedFor : LogValue → Option PendingLook → Option Solved → Type 0
@@ -80,16 +84,12 @@ units_in capacity extent [] run = 0
 units_in capacity extent (session ∷ order) run = units_of run.state (next_request extent session run) + units_in capacity extent order (stepped capacity extent session run)
 
 -- ---- one step
--- how many commands a step takes
-abbrev pub takes : Request → ℕ
-takes (Settling session) = 0
-takes _ = 1
-
--- a session's step: its request is the book's next, its answers follow those that it has, and a pending look has its solution beside it
-pub record IsAfter (extent : Extent) (session : ℕ) (request : Request) (old new : TheRun) : Type 0 where
+-- a session's step: its request is the book's next, the answers that are due to it follow those that it has, and a pending look has its
+-- solution beside it
+pub record IsAfter (extent : Extent) (session : ℕ) (request : Request) (dues : List Due) (old new : TheRun) : Type 0 where
   pub book : new.book ≡ with_request request old.book
   pub answers : List Answer
-  pub shows : ShowsEach extent answers (answers_to extent (state_of old.book) request)
+  pub shows : ShowsEach extent answers dues
   pub members : All (HasMembers extent) answers
   pub transcripts : new.transcripts.items ≡ slice_set old.transcripts.items (session - 1) (of_session session old.transcripts.items ++ answers)
   pub taken : new.taken.items ≡ slice_set old.taken.items (session - 1) (slice_index_or old.taken.items (session - 1) 0 + takes request)

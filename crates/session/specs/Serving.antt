@@ -20,7 +20,7 @@ pub record IsServed (script : ScriptValue) (session : ℕ) (book : BookValue) (t
   pub free : pending_of session (state_of book).pending ≡ None
   pub next : AreNext script.extent session (of_session session script.sessions) (moments_of book session)
   pub taken_is : taken_by (moments_of book session) ≡ taken
-  pub shows : ShowsEach script.extent answers (dues_of script.extent (moments_of book session))
+  pub shows : ShowsEach script.extent answers (dues_of script.extent (of_session session script.sessions) (moments_of book session))
   pub members : All (HasMembers script.extent) answers
   pub steps : length (moments_of book session) ≤ 2 * taken
 

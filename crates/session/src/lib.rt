@@ -2,6 +2,7 @@
 #![tactic(auto)]
 
 pub mod answer;
+mod asked;
 pub mod basis;
 mod held;
 pub mod laws;

@@ -11,16 +11,16 @@ ghost use Rattle.book.specs.declared.step.LookReply.{LookReply as TheReply};
 ghost use Rattle.book.specs.Play.{Looking, pending_of};
 ghost use Rattle.book.specs.Looks.{IsQuery, AllowsSignatures, look_visits};
 ghost use Rattle.book.specs.Books.{BookValue, IsReady, IsFree, state_of, log_of, with_request};
-ghost use Rattle.session.specs.Play.{query_for as asked_query, looked as due_look, valued};
+ghost use Rattle.session.specs.Play.{query_for as due_query, looked as due_look, valued};
 ghost use Rattle.session.specs.Answers.{Shows, HasMembers, IsAllowed};
 ghost use Rattle.session.specs.Runs.{IsSolvedFor, IsLastLook, exps_for};
 ghost use Rattle.session.specs.Looks.{IsLooked, IsLookedFor};
 
 use crate::answer::Answer;
+use crate::asked::{Asked, Wanted};
 use crate::basis::Basis;
 use crate::value::answer_of;
 use book::{Book, Look, LookReply, Query, Step};
-use script_reader::{Ask, Kind};
 use solve::{Gate, Solved, Work, solve};
 use std::alloc::Global;
 use std::sync::ledger::Ledger;
@@ -76,15 +76,15 @@ fn answer_work<G: Gate, L: Ledger>(
     alloc: Global,
     basis: &Basis,
     session: u32,
-    kind: Kind,
+    wanted: &Wanted,
     reply: LookReply,
     work: &Work,
     gate: &G,
     steps: &mut Steps<L>,
 ) -> Result<(Answer, Solved), Memory>
     requires extent { work.now.extent ≡ basis.now }
-    requires allowed { (rows : List RowValue) × PlansStand work.now.plans (moves_of rows) × IsAllowed basis.now kind (weight (moves_of rows)) }
-    ensures shows { (rows : List RowValue) → PlansStand work.now.plans (moves_of rows) → IfOk result (λ r. Shows basis.now r.0 (valued basis.now kind reply rows)) }
+    requires allowed { (rows : List RowValue) × PlansStand work.now.plans (moves_of rows) × IsAllowed basis.now wanted.now (weight (moves_of rows)) }
+    ensures shows { (rows : List RowValue) → PlansStand work.now.plans (moves_of rows) → IfOk result (λ r. Shows basis.now r.0 (valued basis.now wanted.now reply rows)) }
     ensures members { IfOk result (λ r. HasMembers basis.now r.0) }
     ensures nodes { IfOk result (λ r. AreSolved basis.now (all_missed work.now.plans) r.1.nodes.items) }
     ensures ticks { OnOk result (steps.new ≡ steps.old + sum_by exps_of work.now.plans) }
@@ -92,7 +92,7 @@ fn answer_work<G: Gate, L: Ledger>(
     ensures at_most { steps.new ≤ steps.old + sum_by exps_of work.now.plans }
 {
     let solved = solve(alloc, work, basis.hall(), session, gate, steps)?;
-    let answer = answer_of(alloc, basis, kind, reply, &solved.sig)?;
+    let answer = answer_of(alloc, basis, wanted, reply, &solved.sig)?;
     Ok((answer, solved))
 }
 
@@ -101,19 +101,19 @@ pub fn answer_look<G: Gate, L: Ledger>(
     alloc: Global,
     basis: &Basis,
     session: u32,
-    ask: &Ask,
+    asked: &Asked,
     looked: &Looked,
     gate: &G,
     steps: &mut Steps<L>,
 ) -> Result<(Answer, Option<Solved>), Memory>
-    requires looked { (old : BookValue) × IsLookedFor basis.now session ask.now old looked.now }
-    ensures shows { (old : BookValue) → IsLookedFor basis.now session ask.now old looked.now → IfOk result (λ r. Shows basis.now r.0 (due_look basis.now (state_of old) (asked_query basis.now ask.now))) }
+    requires looked { (old : BookValue) × IsLookedFor basis.now session asked.now old looked.now }
+    ensures shows { (old : BookValue) → IsLookedFor basis.now session asked.now old looked.now → IfOk result (λ r. Shows basis.now r.0 (due_look basis.now (state_of old) asked.now.wanted (due_query basis.now asked.now))) }
     ensures members { IfOk result (λ r. HasMembers basis.now r.0) }
-    ensures solved { (old : BookValue) → IsLookedFor basis.now session ask.now old looked.now → IfOk result (λ r. let new = with_request (Looking session (asked_query basis.now ask.now)) old in IsSolvedFor (log_of new) (pending_of session (state_of new).pending) r.1) }
-    ensures pending { (old : BookValue) → IsLookedFor basis.now session ask.now old looked.now → IfOk result (λ r. is_some r.1 ≡ is_some (pending_of session (state_of (with_request (Looking session (asked_query basis.now ask.now)) old)).pending)) }
-    ensures ticks { (old : BookValue) → IsLookedFor basis.now session ask.now old looked.now → OnOk result (steps.new ≡ steps.old + exps_for (state_of old) (asked_query basis.now ask.now)) }
+    ensures solved { (old : BookValue) → IsLookedFor basis.now session asked.now old looked.now → IfOk result (λ r. let new = with_request (Looking session (due_query basis.now asked.now)) old in IsSolvedFor (log_of new) (pending_of session (state_of new).pending) r.1) }
+    ensures pending { (old : BookValue) → IsLookedFor basis.now session asked.now old looked.now → IfOk result (λ r. is_some r.1 ≡ is_some (pending_of session (state_of (with_request (Looking session (due_query basis.now asked.now)) old)).pending)) }
+    ensures ticks { (old : BookValue) → IsLookedFor basis.now session asked.now old looked.now → OnOk result (steps.new ≡ steps.old + exps_for (state_of old) (due_query basis.now asked.now)) }
     ensures counted { steps.old ≤ steps.new }
-    ensures at_most { (old : BookValue) → IsLookedFor basis.now session ask.now old looked.now → steps.new ≤ steps.old + exps_for (state_of old) (asked_query basis.now ask.now) }
+    ensures at_most { (old : BookValue) → IsLookedFor basis.now session asked.now old looked.now → steps.new ≤ steps.old + exps_for (state_of old) (due_query basis.now asked.now) }
 {
     match &looked.look {
         Look::Work(work) => {
@@ -121,7 +121,7 @@ pub fn answer_look<G: Gate, L: Ledger>(
                 alloc,
                 basis,
                 session,
-                ask.kind,
+                &asked.wanted,
                 looked.reply,
                 work,
                 gate,

@@ -1,9 +1,9 @@
 //! A run of a script: one step after another over one book.
-ghost use Rattle.std.specs.Prelude.{◌≡◌, ◌+◌, ◌-◌, ◌<◌, ◌≤◌, ◌^◌, ◌++◌, ◌∷◌, [], true, ℕ, List, Some, length, slice_index_or, sum_by, IfOk, OnOk};
+ghost use Rattle.std.specs.Prelude.{◌≡◌, ◌+◌, ◌-◌, ◌<◌, ◌≤◌, ◌^◌, ◌++◌, ◌∷◌, [], ℕ, List, Some, length, slice_index_or, sum_by, IfOk, OnOk};
 ghost use Rattle.definitions.specs.Rows.{RowValue, moves_of};
 ghost use Rattle.definitions.specs.Signature.{weight};
 ghost use Rattle.script_reader.specs.Script.{IsAsk};
-ghost use Rattle.versions.specs.Versions.{IsEdit};
+ghost use Rattle.versions.specs.Versions.{IsEdit, edit_reply};
 ghost use Rattle.solve.specs.Plans.{PlansStand, all_missed, exps_of};
 ghost use Rattle.solve.specs.Solutions.{AreSolved};
 ghost use Rattle.book.specs.declared.step.Step.{Step as TheStep};
@@ -12,16 +12,17 @@ ghost use Rattle.book.specs.declared.query.Query.{Query as TheQuery};
 ghost use Rattle.book.specs.declared.step.LookReply.{LookReply as TheReply};
 ghost use Rattle.book.specs.Play.{Editing, Looking, Settling, pending_of};
 ghost use Rattle.book.specs.Books.{IsReady, IsFree, IsSettledBy, IsSession, state_of, log_of, with_request};
-ghost use Rattle.session.specs.Play.{has_next as has_request, next_request, query_for as asked_query, looked, valued};
+ghost use Rattle.session.specs.Play.{has_next as has_request, next_request, query_for as due_query, Edited, looked, valued};
 ghost use Rattle.session.specs.Answers.{Shows, HasMembers, IsAllowed};
-ghost use Rattle.session.specs.Runs.{IsRun, IsAfter, IsSolvedFor, HasPlaces, IsLastLook, IsPendingSolved, order_of, run_of, units_of};
+ghost use Rattle.session.specs.Runs.{IsRun, HasNext, IsAfter, IsSolvedFor, HasPlaces, IsLastLook, IsPendingSolved, order_of, run_of, units_of};
 
 use crate::answer::{Answer, Transcript};
+use crate::asked::{Asked, asked_by};
 use crate::basis::Basis;
 use crate::look::{answer_look, look_at};
 use crate::query::query_for;
 use book::Book;
-use script_reader::{Ask, Command, Script};
+use script_reader::{Command, Script};
 use solve::{Solved, Through};
 use std::alloc::Global;
 use std::sync::ledger::Ledger;
@@ -79,7 +80,7 @@ fn settle_step(run: &mut Run, session: u32) -> Result<(), Memory>
     requires ready { IsReady run.old.book session }
     requires places { HasPlaces session run.old }
     requires settled { IsPendingSolved session run.old }
-    ensures { OnOk result (IsAfter run.old.book.extent session (Settling session) run.old run.new) }
+    ensures { OnOk result (IsAfter run.old.book.extent session (Settling session) [] run.old run.new) }
 {
     let at = session as usize - 1;
     let Some(solved) = &run.solved[at] else {
@@ -97,7 +98,7 @@ fn edit_step(alloc: Global, run: &mut Run, session: u32, edit: &Edit) -> Result<
     requires places { HasPlaces session run.old }
     requires edit { IsEdit run.old.book.extent edit.now }
     requires few { slice_index_or run.old.taken.items (session - 1) 0 < 2 ^ 32 }
-    ensures { OnOk result (IsAfter run.old.book.extent session (Editing session edit.now) run.old run.new) }
+    ensures { OnOk result (IsAfter run.old.book.extent session (Editing session edit.now) (Edited (edit_reply (state_of run.old.book).edits edit.now) ∷ []) run.old run.new) }
 {
     let at = session as usize - 1;
     let reply = run.book.edit(alloc, session, edit)?;
@@ -112,23 +113,23 @@ fn answer_ask<L: Ledger>(
     basis: &Basis,
     book: &mut Book,
     session: u32,
-    ask: &Ask,
+    asked: &Asked,
     steps: &mut Steps<L>,
 ) -> Result<(Answer, Option<Solved>), Memory>
     requires basis { basis.now ≡ book.old.extent }
     requires ready { IsReady book.old session }
     requires free { IsFree book.old session }
-    requires ask { IsAsk ask.now }
-    ensures book { OnOk result (book.new ≡ with_request (Looking session (asked_query basis.now ask.now)) book.old) }
-    ensures shows { IfOk result (λ r. Shows basis.now r.0 (looked basis.now (state_of book.old) (asked_query basis.now ask.now))) }
+    requires ask { IsAsk asked.now.ask }
+    ensures book { OnOk result (book.new ≡ with_request (Looking session (due_query basis.now asked.now)) book.old) }
+    ensures shows { IfOk result (λ r. Shows basis.now r.0 (looked basis.now (state_of book.old) asked.now.wanted (due_query basis.now asked.now))) }
     ensures members { IfOk result (λ r. HasMembers basis.now r.0) }
     ensures solved { IfOk result (λ r. IsSolvedFor (log_of book.new) (pending_of session (state_of book.new).pending) r.1) }
-    ensures ticks { OnOk result (steps.new ≡ steps.old + units_of (state_of book.old) (Some (Looking session (asked_query basis.now ask.now)))) }
-    ensures at_most { (steps.old ≤ steps.new) × (steps.new ≤ steps.old + units_of (state_of book.old) (Some (Looking session (asked_query basis.now ask.now)))) }
+    ensures ticks { OnOk result (steps.new ≡ steps.old + units_of (state_of book.old) (Some (Looking session (due_query basis.now asked.now)))) }
+    ensures at_most { (steps.old ≤ steps.new) × (steps.new ≤ steps.old + units_of (state_of book.old) (Some (Looking session (due_query basis.now asked.now)))) }
 {
-    let q = query_for(alloc, basis, ask)?;
+    let q = query_for(alloc, basis, asked)?;
     let looked = look_at(alloc, book, session, q, steps)?;
-    answer_look(alloc, basis, session, ask, &looked, &Through, steps)
+    answer_look(alloc, basis, session, asked, &looked, &Through, steps)
 }
 
 /// Looks at a version, and answers with the value of its rows.
@@ -137,21 +138,21 @@ fn look_step<L: Ledger>(
     basis: &Basis,
     run: &mut Run,
     session: u32,
-    ask: &Ask,
+    asked: &Asked,
     steps: &mut Steps<L>,
 ) -> Result<(), Memory>
     requires basis { basis.now ≡ run.old.book.extent }
     requires ready { IsReady run.old.book session }
     requires free { IsFree run.old.book session }
     requires places { HasPlaces session run.old }
-    requires ask { IsAsk ask.now }
+    requires ask { IsAsk asked.now.ask }
     requires few { slice_index_or run.old.taken.items (session - 1) 0 < 2 ^ 32 }
-    ensures after { OnOk result (IsAfter basis.now session (Looking session (asked_query basis.now ask.now)) run.old run.new) }
-    ensures ticks { OnOk result (steps.new ≡ steps.old + units_of (state_of run.old.book) (Some (Looking session (asked_query basis.now ask.now)))) }
-    ensures at_most { (steps.old ≤ steps.new) × (steps.new ≤ steps.old + units_of (state_of run.old.book) (Some (Looking session (asked_query basis.now ask.now)))) }
+    ensures after { OnOk result (IsAfter basis.now session (Looking session (due_query basis.now asked.now)) (looked basis.now (state_of run.old.book) asked.now.wanted (due_query basis.now asked.now) ∷ []) run.old run.new) }
+    ensures ticks { OnOk result (steps.new ≡ steps.old + units_of (state_of run.old.book) (Some (Looking session (due_query basis.now asked.now)))) }
+    ensures at_most { (steps.old ≤ steps.new) × (steps.new ≤ steps.old + units_of (state_of run.old.book) (Some (Looking session (due_query basis.now asked.now)))) }
 {
     let at = session as usize - 1;
-    let (answer, solved) = answer_ask(alloc, basis, &mut run.book, session, ask, steps)?;
+    let (answer, solved) = answer_ask(alloc, basis, &mut run.book, session, asked, steps)?;
     run.solved[at] = solved;
     run.transcripts[at].push(answer)?;
     run.taken[at] += 1;
@@ -169,7 +170,7 @@ pub fn step<L: Ledger>(
 ) -> Result<(), Memory>
     requires basis { basis.now ≡ script.now.extent }
     requires run { IsRun script.now run.old }
-    requires next { has_request script.now.extent (run_of script.now run.old.book) session ≡ true }
+    requires next { HasNext script.now run.old.book session }
     ensures run { OnOk result (IsRun script.now run.new) }
     ensures order { OnOk result (order_of run.new.book ≡ order_of run.old.book ++ session ∷ []) }
     ensures capacity { OnOk result (run.new.book.capacity ≡ run.old.book.capacity) }
@@ -181,8 +182,10 @@ pub fn step<L: Ledger>(
     if run.book.pending(session) {
         return settle_step(run, session);
     }
-    match &sessions[at].list()[run.taken[at]] {
+    let commands = sessions[at].list();
+    let next = run.taken[at];
+    match &commands[next] {
         Command::Edit(edit) => edit_step(alloc, run, session, edit),
-        Command::Ask(ask) => look_step(alloc, basis, run, session, ask, steps),
+        Command::Ask(ask) => look_step(alloc, basis, run, session, &asked_by(ask), steps),
     }
 }

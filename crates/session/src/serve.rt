@@ -6,22 +6,24 @@ ghost use Rattle.turnstile.specs.Views.{new_pass};
 ghost use Rattle.definitions.specs.Words.{Extent};
 ghost use Rattle.versions.specs.Versions.{IsEdit};
 ghost use Rattle.script_reader.specs.Script.{IsAsk, IsCommand};
-ghost use Rattle.script_reader.specs.declared.command.Command.TheVariants.{Edit as EditCommand, Ask as AskCommand};
+ghost use Rattle.script_reader.specs.declared.command.Command.{Command as TheCommand};
+ghost use Rattle.script_reader.specs.declared.command.Command.TheVariants.{Edit as EditCommand};
 ghost use Rattle.book.specs.Books.{IsSession};
 ghost use Rattle.session.specs.declared.answer.Answer.{Answer as TheAnswer};
-ghost use Rattle.session.specs.Play.{of_session};
+ghost use Rattle.session.specs.Play.{of_session, Asks};
 ghost use Rattle.session.specs.Moments.{moments_of, units_by};
 ghost use Rattle.session.specs.Holds.{seen_book, IsStill};
 ghost use Rattle.session.specs.Serving.{IsServing, IsNextCommand, IsOpening};
 ghost use Rattle.session.specs.Turns.{IsIdle};
 
 use crate::answer::{Answer, Transcript};
+use crate::asked::{Asked, asked_by};
 use crate::basis::Basis;
 use crate::held;
 use crate::held::BookInTurn;
 use crate::look::answer_look;
 use crate::query::query_for;
-use script_reader::{Ask, Command, Script};
+use script_reader::{Command, Script};
 use solve::Gate;
 use std::alloc::Global;
 use std::sync::Wait;
@@ -61,17 +63,17 @@ fn serve_ask<R: Wait, G: Gate, L: Ledger>(
     pass: &mut Pass<BookInTurn>,
     basis: &Basis,
     script: &Script,
-    ask: &Ask,
+    asked: &Asked,
     gate: &G,
     steps: &mut Steps<L>,
 ) -> Result<Answer, Memory>
     requires idle { IsIdle turns.now pass.old }
     requires basis { basis.now ≡ script.now.extent }
-    requires served { (taken : ℕ) × (answers : List TheAnswer) × IsServing script.now (view pass.old) taken answers × IsNextCommand script.now (view pass.old).label taken (AskCommand ask.now) }
-    requires ask { IsAsk ask.now }
+    requires served { (taken : ℕ) × (answers : List TheAnswer) × (command : TheCommand) × IsServing script.now (view pass.old) taken answers × IsNextCommand script.now (view pass.old).label taken command × Asks command asked.now }
+    requires ask { IsAsk asked.now.ask }
     ensures idle { IsIdle turns.now pass.new }
     ensures still { IsStill (view pass.old) (view pass.new) }
-    ensures served { (taken : ℕ) → (answers : List TheAnswer) → IsServing script.now (view pass.old) taken answers → IsNextCommand script.now (view pass.old).label taken (AskCommand ask.now) →
+    ensures served { (taken : ℕ) → (answers : List TheAnswer) → (command : TheCommand) → IsServing script.now (view pass.old) taken answers → IsNextCommand script.now (view pass.old).label taken command → Asks command asked.now →
         IfOk result (λ answer. IsServing script.now (view pass.new) (taken + 1) (answers ++ answer ∷ [])) }
     ensures kept { IsPrefix (view pass.old).own (view pass.new).own }
     ensures counted { steps.old ≤ steps.new }
@@ -79,9 +81,9 @@ fn serve_ask<R: Wait, G: Gate, L: Ledger>(
 {
     let _shape = script.shape();
     let session = pass.label();
-    let q = query_for(alloc, basis, ask)?;
+    let q = query_for(alloc, basis, asked)?;
     let looked = held::look(rt, alloc, turns, pass, q, steps)?;
-    let (answer, solved) = answer_look(alloc, basis, session, ask, &looked, gate, steps)?;
+    let (answer, solved) = answer_look(alloc, basis, session, asked, &looked, gate, steps)?;
     if let Some(solved) = solved {
         held::settle(rt, turns, pass, &solved)?;
     }
@@ -114,7 +116,17 @@ fn serve_command<R: Wait, G: Gate, L: Ledger>(
 {
     match command {
         Command::Edit(edit) => serve_edit(rt, alloc, turns, pass, script, edit),
-        Command::Ask(ask) => serve_ask(rt, alloc, turns, pass, basis, script, ask, gate, steps),
+        Command::Ask(ask) => serve_ask(
+            rt,
+            alloc,
+            turns,
+            pass,
+            basis,
+            script,
+            &asked_by(ask),
+            gate,
+            steps,
+        ),
     }
 }
 

@@ -12,34 +12,34 @@ ghost use Rattle.session.specs.Play.{valued};
 ghost use Rattle.session.specs.Answers.{Shows, HasMembers, IsAllowed};
 
 use crate::answer::Answer;
+use crate::asked::Wanted;
 use crate::basis::Basis;
 use book::LookReply;
 use dynkin_map::log_signature;
 use lie_bracket::TableFault;
-use script_reader::Kind;
 use std::alloc::Global;
 use tensor_product::Sig;
 use words::Memory;
 
-/// The answer with this reply, from the signature of the rows, which have a value of this kind.
+/// The answer with this reply, from the signature of the rows, which have the value that is wanted.
 pub fn answer_of(
     alloc: Global,
     basis: &Basis,
-    kind: Kind,
+    wanted: &Wanted,
     reply: LookReply,
     sig: &Sig,
 ) -> Result<Answer, Memory>
     requires extent { sig.now.tensor.extent ≡ basis.now }
-    requires allowed { IsAllowed basis.now kind sig.now.weight }
-    ensures shows { (rows : List RowValue) → StandsFor sig.now (moves_of rows) → IfOk result (λ answer. Shows basis.now answer (valued basis.now kind reply rows)) }
+    requires allowed { IsAllowed basis.now wanted.now sig.now.weight }
+    ensures shows { (rows : List RowValue) → StandsFor sig.now (moves_of rows) → IfOk result (λ answer. Shows basis.now answer (valued basis.now wanted.now reply rows)) }
     ensures members { IfOk result (HasMembers basis.now) }
 {
-    match kind {
-        Kind::Sig => Ok(Answer::Sig {
+    match wanted {
+        Wanted::Signature => Ok(Answer::Sig {
             reply,
             tensor: sig.copy(alloc)?.into_tensor(),
         }),
-        Kind::Log => match basis.tables(alloc) {
+        Wanted::Logarithm => match basis.tables(alloc) {
             Ok(held) => Ok(Answer::Log {
                 reply,
                 lie: log_signature(alloc, held.get().dynkin(), sig)?,

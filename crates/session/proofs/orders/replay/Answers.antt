@@ -1,8 +1,10 @@
-use Rattle.std.proofs.Common.{◌≡◌, ◌∙◌, ℕ, ◌+◌, true, false, ap, sym, refl, get_or, length}
+use Rattle.std.proofs.Common.{◌≡◌, ◌∙◌, ℕ, ◌+◌, Bool, true, false, ap, sym, refl, get_or, length}
 use Rattle.std.specs.Prelude.{Some, is_some}
-use Rattle.session.specs.Play.{next_turn}
+use Rattle.session.specs.Play.{next_turn, has_next}
+use Rattle.script_reader.specs.Script.{ScriptValue}
+use Rattle.book.specs.Books.{BookValue}
 use Rattle.session.specs.Answers.{IsOutcome}
-use Rattle.session.specs.Runs.{run_of}
+use Rattle.session.specs.Runs.{run_of, HasNext}
 use Rattle.session.proofs.OrderLaws.{replayed-none, replayed-more, replay-stops, replay-lacks, replay-ends, replayed-order, units-on, no-units, all-units, at-most, at-most_with, replayed-units, replayed-within, whole-outcome}
 use Rattle.session.proofs.ExpansionLaws.{expand-in}
 use Rattle.session.proofs.orders.replay.Goals as goal
@@ -26,6 +28,14 @@ returns-then-not-has_next-clause-illegal g c place e =
 
 pub step-requires-clause-run : goal.step-requires-clause-run
 step-requires-clause-run g c = c.loop-before.invariant.is_run
+
+-- what a test says of a session
+tested : (script : ScriptValue) (book : BookValue) (session : ℕ) (is : Bool) → is ≡ has_next script.extent (run_of script book) session → is ≡ true → HasNext script book session
+tested script book session is e h = record { has = sym e ∙ h }
+
+pub step-requires-clause-next : goal.step-requires-clause-next
+step-requires-clause-next g c =
+    tested c.args.script.now c.loop-before.run.book (get_or c.args.order.now c.loop-before.before 0) c.has_next.result c.has_next.ensures c.if-not-has_next.false
 
 pub loop-before-preserved : goal.loop-before-preserved
 loop-before-preserved g c =

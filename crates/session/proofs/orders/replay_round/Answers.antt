@@ -26,7 +26,7 @@ pub step-requires-clause-next : goal.step-requires-clause-next
 step-requires-clause-next g c =
     let script = c.args.script.now in
     let run = run_of script c.loop-step.run.book in
-    (turn-is script.extent c.loop-step.last c.in-Some.session run (sym c.in-Some.ensures)).0
+    record { has = (turn-is script.extent c.loop-step.last c.in-Some.session run (sym c.in-Some.ensures)).0 }
 
 pub loop-step-preserved : goal.loop-step-preserved
 loop-step-preserved g c =

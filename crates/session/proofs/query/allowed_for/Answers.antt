@@ -6,8 +6,8 @@ use Rattle.book.specs.Looks.{AllowsSignatures}
 use Rattle.session.proofs.AllowedLaws.{flat-signatures, table-signatures}
 use Rattle.session.proofs.query.allowed_for.Goals as goal
 
-pub returns-in-Sig-clause-signatures : goal.returns-in-Sig-clause-signatures
-returns-in-Sig-clause-signatures c =
+pub returns-in-Signature-clause-signatures : goal.returns-in-Signature-clause-signatures
+returns-in-Signature-clause-signatures c =
     let same : c.shape.result ≡ c.args.basis.now = c.shape.ensures.value ∙ c.hall.ensures in
     subst (λ (extent : Extent). AllowsSignatures extent (Fits c.flat.result)) same
     (subst (λ (factors : List ℕ). AllowsSignatures c.shape.result (Fits factors)) (sym c.flat.ensures) (flat-signatures c.shape.result))

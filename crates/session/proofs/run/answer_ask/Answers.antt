@@ -14,7 +14,7 @@ use Rattle.session.proofs.run.answer_ask.Goals as goal
 use Rattle.session.proofs.run.answer_ask.Goals.{In_ok-looked}
 
 -- what was looked at, as the command asks for it
-asked : (g : given.Over) (c : In_ok-looked g) → IsLookedFor c.args.basis.now c.args.session c.args.ask.now c.args.book.now c.in_ok-looked.looked
+asked : (g : given.Over) (c : In_ok-looked g) → IsLookedFor c.args.basis.now c.args.session c.args.asked.now c.args.book.now c.in_ok-looked.looked
 asked g c = record {
   extent_is = c.requires.basis;
   ready = c.requires.ready;
@@ -23,13 +23,13 @@ asked g c = record {
 }
 
 -- the book after the look
-book-is : (g : given.Over) (c : In_ok-looked g) → c.look_at.new.book ≡ with_request (Looking c.args.session (query_for c.args.basis.now c.args.ask.now)) c.args.book.now
+book-is : (g : given.Over) (c : In_ok-looked g) → c.look_at.new.book ≡ with_request (Looking c.args.session (query_for c.args.basis.now c.args.asked.now)) c.args.book.now
 book-is g c = c.in_ok-looked.ensures.ok ∙ ap (λ (q : Query). with_request (Looking c.args.session q) c.args.book.now) c.in_ok-q.ensures.value
 
 pub returns-in_err-looked-clause-at_most : goal.returns-in_err-looked-clause-at_most
 returns-in_err-looked-clause-at_most g c =
     let most = c.in_err-looked.ensures.at_most in
-    let asked_most : c.look_at.new.steps ≤ c.args.steps.now + look_visits (state_of c.args.book.now) (query_for c.args.basis.now c.args.ask.now) =
+    let asked_most : c.look_at.new.steps ≤ c.args.steps.now + look_visits (state_of c.args.book.now) (query_for c.args.basis.now c.args.asked.now) =
     subst (λ (q : Query). c.look_at.new.steps ≤ c.args.steps.now + look_visits (state_of c.args.book.now) q) c.in_ok-q.ensures.value most.1 in
     (most.0, omega (arith, asked_most))
 
@@ -51,14 +51,14 @@ returns-clause-solved g c =
     (c.answer_look.ensures.solved c.args.book.now (asked g at))
 
 -- the units of the visits, as the command asks for them
-visits-are : (g : given.Over) (c : In_ok-looked g) → c.look_at.new.steps ≡ c.args.steps.now + look_visits (state_of c.args.book.now) (query_for c.args.basis.now c.args.ask.now)
+visits-are : (g : given.Over) (c : In_ok-looked g) → c.look_at.new.steps ≡ c.args.steps.now + look_visits (state_of c.args.book.now) (query_for c.args.basis.now c.args.asked.now)
 visits-are g c = c.in_ok-looked.ensures.ticks ∙ ap (λ (q : Query). c.args.steps.now + look_visits (state_of c.args.book.now) q) c.in_ok-q.ensures.value
 
 pub returns-clause-ticks : goal.returns-clause-ticks
 returns-clause-ticks g c =
     let at = (goal.at.returns-clause-ticks g c).In_ok-looked in
     on_ok_weaker c.answer_look.result
-    (λ (ticks : c.answer_look.new.steps ≡ c.look_at.new.steps + exps_for (state_of c.args.book.now) (query_for c.args.basis.now c.args.ask.now)). ticks ∙ omega (arith, visits-are g at))
+    (λ (ticks : c.answer_look.new.steps ≡ c.look_at.new.steps + exps_for (state_of c.args.book.now) (query_for c.args.basis.now c.args.asked.now)). ticks ∙ omega (arith, visits-are g at))
     (c.answer_look.ensures.ticks c.args.book.now (asked g at))
 
 pub returns-clause-at_most : goal.returns-clause-at_most

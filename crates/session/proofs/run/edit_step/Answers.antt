@@ -10,7 +10,7 @@ returns c =
     let run = c.args.run.now in let session = c.args.session in let edit = c.args.edit.now in
     let kept = get_or run.solved.items (session - 1) None in
     after-command run.book.extent session (Editing session edit) run _ c.requires.places c.in_ok-reply.ensures.ok refl
-    (answers.Edit c.in_ok-reply.reply) (c.in_ok-reply.ensures.reply, tt) tt
+    (answers.Edit c.in_ok-reply.reply) _ c.in_ok-reply.ensures.reply tt
     c.index_mut-2.result.now c.index_mut-2.ensures.value refl
     c.index_mut.result.now c.push.new.self c.index_mut.ensures.value c.in_ok-push.ensures.ok refl
     kept (sym (set-get_or run.solved.items (session - 1) None)) (free-after_edit session edit run.book c.edit.new.self kept c.requires.free c.in_ok-reply.ensures.ok)

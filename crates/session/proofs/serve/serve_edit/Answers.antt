@@ -21,8 +21,7 @@ edit-requires-clause-edit g c = subst (λ (e : Extent). IsEdit e c.args.edit.now
 pub returns-clause-served : goal.returns-clause-served
 returns-clause-served g c taken answers serving next =
     let did = c.in_ok-edit.ensures.adds in
-    let can = can-step c.args.script.now (view c.args.pass.now) taken answers serving c.shape-shape.ensures.script (Edit c.args.edit.now) next in
-    after-edit c.args.script.now (view c.args.pass.now) taken answers serving (view c.edit.new.pass) did.0 c.args.edit.now c.in_ok-edit.field-0 can next did.1 did.2
+    after-edit c.args.script.now (view c.args.pass.now) taken answers serving (view c.edit.new.pass) did.0 c.args.edit.now c.in_ok-edit.field-0 c.shape-shape.ensures.script next did.1 did.2
 
 pub returns-clause-units : goal.returns-clause-units
 returns-clause-units g c =
