@@ -592,20 +592,26 @@ watch 1 versions 1,3\n",
     ),
     (
         &[],
-        "shape 1 1\nwatch 2 3 0\nsession 1\nappend a 1/2 5\nwatch 0 2 0\nappend b 1 7\n",
+        "shape 1 1\nsession 1\nwatch 2 3 0\nappend a 1/2 5\nappend b 1 7\ncorrect a 6\nremove b\n",
         "shape 1 1\n\
 session 1\n\
 1 done 1\n\
 2 done 2\n\
-order 1,1\n\
-versions 2\n\
-watch 1 versions none\n\
-watch 2 versions 1,2\n",
+3 done 3\n\
+4 done 4\n\
+order 1,1,1,1\n\
+versions 4\n\
+watch 1 versions none\n",
     ),
     (
         &["--json"],
-        "shape 1 1\nsession 1\nwatch 0 1 0\nappend a 1/2 5\n",
-        "{\"order\":[1],\"sessions\":[[{\"command\":1,\"reply\":\"done\",\"version\":1}]],\"shape\":[1,1],\"versions\":1,\"watches\":[[1]]}\n",
+        "shape 1 1\nsession 1\nwatch 0 1 0\nappend a 1/2 5\nappend b 1 7\ncorrect a 6\nremove b\n",
+        "{\"order\":[1,1,1,1],\"sessions\":[[\
+{\"command\":1,\"reply\":\"done\",\"version\":1},\
+{\"command\":2,\"reply\":\"done\",\"version\":2},\
+{\"command\":3,\"reply\":\"done\",\"version\":3},\
+{\"command\":4,\"reply\":\"done\",\"version\":4}]],\
+\"shape\":[1,1],\"versions\":4,\"watches\":[[1,3]]}\n",
     ),
     (
         &[],
