@@ -7,10 +7,8 @@ ghost use Rattle.tensor_product.specs.Sigs.{StandsFor};
 use hall_set::HallSet;
 use solve::add_row;
 use std::alloc::Global;
-use std::marker::Brand;
-use std::sync::ledger::{Blank, Ledger};
 use tensor_product::Sig;
-use words::{Memory, Move, Steps};
+use words::{Free, Memory, Move, Steps};
 
 /// The sum of the weights of moves.
 pub fn weight_of_moves(moves: &[Move]) -> u128
@@ -23,29 +21,6 @@ pub fn weight_of_moves(moves: &[Move]) -> u128
     sum
 }
 
-/// The signature of moves, with a count of its own.
-fn counted<L: Ledger>(
-    alloc: Global,
-    hall: &HallSet,
-    moves: &[Move],
-    blank: Blank,
-) -> Result<Sig, Memory>
-    requires moves { All (IsMove hall.now) moves.now }
-    requires fits { weight moves.now ^ hall.now.depth ≤ limit }
-    requires name { blank.name ≡ L.name }
-    requires parts { blank.parts ≡ L.parts }
-    requires some { 0 < L.parts }
-    ensures extent { IfOk result (λ s. s.tensor.extent ≡ hall.now) }
-    ensures stands { IfOk result (λ s. StandsFor s moves.now) }
-{
-    let mut steps: Steps<L> = Steps::new(blank);
-    let mut sig = Sig::unit(alloc, hall.shape())?;
-    for x in moves {
-        add_row(alloc, &mut sig, x, hall, &mut steps)?;
-    }
-    Ok(sig)
-}
-
 /// The signature of moves whose weight fits.
 pub fn signature_of(alloc: Global, hall: &HallSet, moves: &[Move]) -> Result<Sig, Memory>
     requires moves { All (IsMove hall.now) moves.now }
@@ -53,5 +28,10 @@ pub fn signature_of(alloc: Global, hall: &HallSet, moves: &[Move]) -> Result<Sig
     ensures extent { IfOk result (λ s. s.tensor.extent ≡ hall.now) }
     ensures stands { IfOk result (λ s. StandsFor s moves.now) }
 {
-    counted::<Brand>(alloc, hall, moves, Blank::new(1))
+    let mut steps = Steps::new(Free);
+    let mut sig = Sig::unit(alloc, hall.shape())?;
+    for x in moves {
+        add_row(alloc, &mut sig, x, hall, &mut steps)?;
+    }
+    Ok(sig)
 }

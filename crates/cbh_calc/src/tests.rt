@@ -17,7 +17,7 @@ fn move_of(alloc: Global, shape: Shape, given: &[&[i64]]) -> Result<Move, Fail>
     for part in given {
         parts.push(Entries::of(Vec::from_slice(alloc, part)?))?;
     }
-    Ok(Move::of(shape, parts).ok_or("no such move")?)
+    Ok(Move::of(alloc, shape, parts)?.ok_or("no such move")?)
 }
 
 fn moves_of(alloc: Global, shape: Shape, given: &[&[&[i64]]]) -> Result<Vec<Move>, Fail>

@@ -2,20 +2,14 @@ ghost use Rattle.std.specs.Prelude.{◌≡◌, ◌<◌};
 
 use crate::{LogFault, log};
 use scaled_tensor::LogTensor;
-use std::marker::Brand;
 use std::process::Abort;
-use std::sync::ledger::{Blank, Ledger};
 use std::test::Fail;
 use tensor_product::{Overflow, Sig, extend_row};
-use words::{Shape, Steps};
+use words::{Free, Shape, Steps};
 
 /// Extends a signature by rows, up to the first that does not fit.
-fn extend_rows<L: Ledger>(sig: &mut Sig, rows: &[&[i64]], blank: Blank) -> Result<(), Overflow>
-    requires name { blank.name ≡ L.name }
-    requires parts { blank.parts ≡ L.parts }
-    requires some { 0 < L.parts }
-{
-    let mut steps: Steps<L> = Steps::new(blank);
+fn extend_rows(sig: &mut Sig, rows: &[&[i64]]) -> Result<(), Overflow> {
+    let mut steps = Steps::new(Free);
     for row in rows {
         if row.len() == sig.tensor().shape().width() as usize {
             extend_row(sig, row, &mut steps)?;
@@ -35,7 +29,7 @@ fn levels_are(rt: &impl Abort, log: &LogTensor, expected: &[&[i128]]) {
 #[test]
 fn two_rows(rt: HostRuntime) -> Result<(), Fail> {
     let mut sig = Sig::unit(rt.alloc(), Shape::new(2, 2)?)?;
-    extend_rows::<Brand>(&mut sig, &[&[1, 0], &[0, 1]], Blank::new(1))?;
+    extend_rows(&mut sig, &[&[1, 0], &[0, 1]])?;
     let log = log(rt.alloc(), &sig)?;
     levels_are(&rt, &log, &[&[0], &[1, 1], &[0, 2, -2, 0]]);
     assert_eq!(rt; log.weight(), 2);
@@ -46,7 +40,7 @@ fn two_rows(rt: HostRuntime) -> Result<(), Fail> {
 #[test]
 fn third_level_of_two_rows(rt: HostRuntime) -> Result<(), Fail> {
     let mut sig = Sig::unit(rt.alloc(), Shape::new(2, 3)?)?;
-    extend_rows::<Brand>(&mut sig, &[&[1, 0], &[0, 1]], Blank::new(1))?;
+    extend_rows(&mut sig, &[&[1, 0], &[0, 1]])?;
     let log = log(rt.alloc(), &sig)?;
     levels_are(
         &rt,
@@ -59,7 +53,7 @@ fn third_level_of_two_rows(rt: HostRuntime) -> Result<(), Fail> {
 #[test]
 fn greatest_row_of_one_letter(rt: HostRuntime) -> Result<(), Fail> {
     let mut sig = Sig::unit(rt.alloc(), Shape::new(1, 8)?)?;
-    extend_rows::<Brand>(&mut sig, &[&[6184]], Blank::new(1))?;
+    extend_rows(&mut sig, &[&[6184]])?;
     let log = log(rt.alloc(), &sig)?;
     levels_are(
         &rt,
@@ -73,7 +67,7 @@ fn greatest_row_of_one_letter(rt: HostRuntime) -> Result<(), Fail> {
 #[test]
 fn row_past_the_limit(rt: HostRuntime) -> Result<(), Fail> {
     let mut sig = Sig::unit(rt.alloc(), Shape::new(1, 8)?)?;
-    extend_rows::<Brand>(&mut sig, &[&[6185]], Blank::new(1))?;
+    extend_rows(&mut sig, &[&[6185]])?;
     assert_eq!(rt; log(rt.alloc(), &sig).err(), Some(LogFault::Overflow(6185)));
     Ok(())
 }

@@ -1,4 +1,5 @@
 use crate::HallSet;
+use std::alloc::Global;
 use std::test::Fail;
 use words::Shape;
 
@@ -47,5 +48,46 @@ fn table_of_depth_five(rt: HostRuntime) -> Result<(), Fail> {
         text.as_str(),
         "[1,2] [1,[1,2]] [2,[1,2]] [1,[1,[1,2]]] [2,[1,[1,2]]] [2,[2,[1,2]]] [1,[1,[1,[1,2]]]] [2,[1,[1,[1,2]]]] [2,[2,[1,[1,2]]]] [2,[2,[2,[1,2]]]] [[1,2],[1,[1,2]]] [[1,2],[2,[1,2]]] "
     );
+    Ok(())
+}
+
+/// The text of a member by its number.
+fn text_of(alloc: Global, set: &HallSet, h: u32) -> Result<String, Fail> {
+    if h < 1 || h > set.len() {
+        return Err("no such member")?;
+    }
+    Ok(set.text(alloc, h)?)
+}
+
+#[test]
+fn texts_of_each_degree(rt: HostRuntime) -> Result<(), Fail> {
+    let set = HallSet::build(rt.alloc(), Shape::new(2, 8)?)?;
+    assert_eq!(rt; set.len(), 71);
+    for (h, text) in [
+        (1, "1"),
+        (3, "[1,2]"),
+        (5, "[2,[1,2]]"),
+        (15, "[1,[1,[1,[1,[1,2]]]]]"),
+        (24, "[1,[1,[1,[1,[1,[1,2]]]]]]"),
+        (42, "[1,[1,[1,[1,[1,[1,[1,2]]]]]]]"),
+    ] {
+        assert_eq!(rt; text_of(rt.alloc(), &set, h)?.as_str(), text);
+    }
+    Ok(())
+}
+
+#[test]
+fn texts_of_twelve_letters(rt: HostRuntime) -> Result<(), Fail> {
+    let set = HallSet::build(rt.alloc(), Shape::new(12, 3)?)?;
+    assert_eq!(rt; set.len(), 650);
+    for (h, text) in [
+        (12, "12"),
+        (13, "[1,2]"),
+        (78, "[11,12]"),
+        (79, "[1,[1,2]]"),
+        (650, "[12,[11,12]]"),
+    ] {
+        assert_eq!(rt; text_of(rt.alloc(), &set, h)?.as_str(), text);
+    }
     Ok(())
 }

@@ -1,29 +1,32 @@
 ghost use Rattle.std.specs.Prelude.{◌≡◌, IfOk, string_bytes};
 
-use std::alloc::Global;
 use std::marker::Model;
+use std::sync::ArcStr;
 use words::Memory;
 
 /// The name of a row, seen as its bytes: in a script 1 to 32 letters, digits and underscores, the first a letter.
+/// A name is never changed, so its copies share the bytes.
 #[derive(Drop)]
 pub struct Name {
-    text: String,
+    text: ArcStr,
 }
 
 impl Model for Name {
-    ghost use Rattle.std.specs.Prelude.{ℕ, List, string_bytes};
+    ghost use Rattle.std.specs.Prelude.{ℕ, List};
+    ghost use Rattle.std.specs.Arc.{arc_str_bytes};
 
     ghost Value = { List ℕ };
 
-    ghost view = { λ n. string_bytes n.text };
+    ghost view = { λ n. arc_str_bytes n.text };
 }
 
 impl Name {
     /// The name that is spelled so.
-    pub fn of(text: String) -> Name
-        ensures { result ≡ string_bytes text }
+    pub fn of(text: String) -> Result<Name, Memory>
+        ensures { IfOk result (λ name. name ≡ string_bytes text) }
     {
-        Name { text }
+        let text = ArcStr::from_string(text)?;
+        Ok(Name { text })
     }
 
     /// The spelling.
@@ -40,11 +43,11 @@ impl Name {
         self.text.as_bytes()
     }
 
-    /// An equal name.
-    pub fn copy(&self, alloc: Global) -> Result<Name, Memory>
+    /// An equal name, which shares the bytes of this one.
+    pub fn copy(&self) -> Result<Name, Memory>
         ensures { IfOk result (λ name. name ≡ self.now) }
     {
-        let text = String::from_str(alloc, self.text.as_str())?;
+        let text = self.text.clone()?;
         Ok(Name { text })
     }
 }

@@ -1,7 +1,6 @@
 ghost use Rattle.std.specs.Prelude.{◌≡◌, IfOk};
 
 use crate::name::Name;
-use std::alloc::Global;
 use std::marker::Model;
 use words::{Memory, Move};
 
@@ -70,15 +69,15 @@ impl Row {
         self.x = x;
     }
 
-    /// An equal row.
-    pub fn copy(&self, alloc: Global) -> Result<Row, Memory>
+    /// An equal row, which shares the name and the move of this one.
+    pub fn copy(&self) -> Result<Row, Memory>
         ensures { IfOk result (λ row. row ≡ self.now) }
     {
         Ok(Row {
-            name: self.name.copy(alloc)?,
+            name: self.name.copy()?,
             tick: self.tick,
             birth: self.birth,
-            x: self.x.copy(alloc)?,
+            x: self.x.copy()?,
         })
     }
 }

@@ -72,7 +72,7 @@ pub fn insert_copy(
     ensures tied { AreTied rows.new names.new }
 {
     let key = String::from_str(alloc, name.text())?;
-    let row = Row::new(name.copy(alloc)?, tick, birth, x.copy(alloc)?);
+    let row = Row::new(name.copy()?, tick, birth, x.copy()?);
     insert_row(rows, names, key, (tick, birth), row)
 }
 
@@ -92,7 +92,7 @@ pub fn insert_equal(
 {
     let key = String::from_str(alloc, row.name().text())?;
     let place = (row.tick(), row.birth());
-    insert_row(rows, names, key, place, row.copy(alloc)?)
+    insert_row(rows, names, key, place, row.copy()?)
 }
 
 /// Another move for the row of a name, which answers its tick.
@@ -156,7 +156,7 @@ pub fn copies_between(
 {
     let mut list = Vec::new(alloc);
     for (_place, row) in rows.range((from, 0)..(to, 0)) {
-        list.push(row.copy(alloc)?)?;
+        list.push(row.copy()?)?;
     }
     Ok(RowList::of(list))
 }

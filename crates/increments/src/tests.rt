@@ -2,12 +2,12 @@ ghost use Rattle.std.specs.Prelude.{IfOk};
 ghost use Rattle.definitions.specs.Moves.{IsMove};
 
 use crate::{Name, RowFault, Rows};
-use std::alloc::{AllocError, Global};
+use std::alloc::Global;
 use std::test::Fail;
-use words::{Entries, Move, Shape};
+use words::{Entries, Memory, Move, Shape};
 
-fn name(alloc: Global, text: &str) -> Result<Name, AllocError> {
-    Ok(Name::of(String::from_str(alloc, text)?))
+fn name(alloc: Global, text: &str) -> Result<Name, Memory> {
+    Name::of(String::from_str(alloc, text)?)
 }
 
 /// The move of one entry, of the shape (1, 1).
@@ -16,7 +16,7 @@ fn single(alloc: Global, shape: Shape, entry: i64) -> Result<Move, Fail>
 {
     let mut parts = Vec::new(alloc);
     parts.push(Entries::of(Vec::from_slice(alloc, &[entry])?))?;
-    Ok(Move::of(shape, parts).ok_or("refused")?)
+    Ok(Move::of(alloc, shape, parts)?.ok_or("refused")?)
 }
 
 #[test]

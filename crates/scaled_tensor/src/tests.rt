@@ -41,3 +41,30 @@ fn bounds_of_a_logarithm(rt: HostRuntime) -> Result<(), Fail> {
     }
     Ok(())
 }
+
+#[test]
+fn copies_of_the_largest_shapes(rt: HostRuntime) -> Result<(), Fail> {
+    for (width, depth, longest) in [
+        (12, 3, 1728),
+        (6, 4, 1296),
+        (5, 4, 625),
+        (4, 5, 1024),
+        (3, 6, 729),
+        (2, 8, 256),
+        (1, 8, 1),
+    ] {
+        let shape = Shape::new(width, depth)?;
+        let unit = Tensor::unit(rt.alloc(), shape)?;
+        let zero = Tensor::zero(rt.alloc(), shape)?;
+        let copy = unit.copy(rt.alloc())?;
+        assert!(rt; copy.equal(&unit) && !zero.equal(&unit));
+        assert_eq!(rt; copy.level(shape.depth()).len(), longest);
+        assert!(rt;
+            zero.copy(rt.alloc())?
+                .level(shape.depth())
+                .iter()
+                .all(|n| *n == 0)
+        );
+    }
+    Ok(())
+}

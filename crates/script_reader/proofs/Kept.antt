@@ -1,5 +1,5 @@
 -- A good line keeps what is kept while a script is read.
-use Rattle.std.proofs.Common.{◌≡◌, suc, ◌+◌, ◌<◌, ◌≤◌, if◌then◌else◌, List, [], ◌∷◌, ◌++◌, length, sum_by, Option, Some, None, IsSome, refl, ap, sym, ◌∙◌, arith, rules, All}
+use Rattle.std.proofs.Common.{◌≡◌, ℕ, zero, suc, ◌+◌, ◌<◌, ◌≤◌, if◌then◌else◌, List, [], ◌∷◌, ◌++◌, length, get_or, set, sum_by, Option, Some, None, IsSome, refl, ap, sym, ◌∙◌, arith, rules, All}
 use Rattle.std.proofs.lemmas.Grind.{common_steps}
 use Rattle.std.proofs.lemmas.Bool.Decides.{nat_tests}
 use Rattle.std.proofs.lemmas.List.Sums.{sum_by_push, sum_by-cons}
@@ -20,6 +20,14 @@ use Rattle.script_reader.specs.Reading.{IsNext, Keeps}
 -- nothing is not something
 none_is_not_some : {X : Type 0} (o : Option X) → o ≡ None → IsSome o → ⊥
 none_is_not_some o e h = grind (arith, common_steps)
+
+-- a command more is put behind those of the last session
+pub onto_last_put : (command : Command) (sessions : List (List Command)) (i : ℕ) (d : List Command) → suc i ≡ length sessions → set sessions i (get_or sessions i d ++ command ∷ []) ≡ onto_last command sessions
+onto_last_put command [] i d e = absurd (omega arith)
+onto_last_put command (session ∷ []) zero d e = refl
+onto_last_put command (session ∷ []) (suc i) d e = absurd (omega arith)
+onto_last_put command (session ∷ next ∷ sessions) zero d e = absurd (omega arith)
+onto_last_put command (session ∷ next ∷ sessions) (suc i) d e = ap (λ rest. session ∷ rest) (onto_last_put command (next ∷ sessions) i d (omega arith))
 
 -- a command more opens no session
 onto_last-length : (command : Command) (sessions : List (List Command)) → length (onto_last command sessions) ≡ length sessions

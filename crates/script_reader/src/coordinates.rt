@@ -56,7 +56,7 @@ fn cut(alloc: Global, places: &[usize], coordinates: Vec<i64>) -> Result<Vec<Ent
     requires { AreEnds 0 places.now (length coordinates.items) }
     ensures { IfOk result (λ parts. parts.items ≡ cut_from 0 places.now coordinates.items) }
 {
-    let mut parts = Vec::new(alloc);
+    let mut parts = Vec::with_capacity(alloc, places.len())?;
     let mut rest = coordinates;
     let mut from = 0;
     for place in places {
@@ -82,7 +82,7 @@ pub fn lie_move(
 {
     let _depth = shape.depth();
     let parts = cut(alloc, &counts[..degree], coordinates)?;
-    match Move::of(shape, parts) {
+    match Move::of(alloc, shape, parts)? {
         Some(x) => Ok(x),
         None => unreachable!(),
     }

@@ -78,6 +78,7 @@ impl Reader {
     }
 
     /// Adds a command to the last session.
+    #[tactic(auto, using(crate::proofs::Kept::onto_last_put))]
     fn add_command(&mut self, command: Command) -> Result<(), Memory>
         requires opened { 0 < self.old.tally.sessions }
         requires keeps { Keeps self.old.tally self.old.sessions.items self.old.watches.items }

@@ -24,3 +24,21 @@ fn an_empty_word(rt: HostRuntime) -> Result<(), Fail> {
     );
     Ok(())
 }
+
+#[test]
+fn words_of_five_and_of_eight_letters(rt: HostRuntime) -> Result<(), Fail> {
+    for (u, v, count) in [
+        ([1, 2].as_slice(), [3, 4, 5].as_slice(), 10),
+        (&[1, 2, 3, 4], &[5, 6, 7, 8], 70),
+        (&[1], &[2, 3, 4, 5, 6, 7, 8], 8),
+    ] {
+        let words = shuffles(rt.alloc(), u, v)?;
+        assert_eq!(rt; words.len(), count);
+        for (word, first, second) in [(words.first(), u, v), (words.last(), v, u)] {
+            let mut letters = Vec::from_slice(rt.alloc(), first)?;
+            letters.extend_from_slice(second)?;
+            assert_eq!(rt; word.ok_or("no word")?.list(), letters.as_slice());
+        }
+    }
+    Ok(())
+}

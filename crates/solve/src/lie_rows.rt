@@ -14,9 +14,8 @@ use hall_set::HallSet;
 use lie_bracket::{ExpandFault, LieElement, Term, expand};
 use scaled_tensor::Tensor;
 use std::alloc::Global;
-use std::sync::ledger::Ledger;
 use tensor_product::{ProductFault, Sig, exp_move, fitting};
-use words::{Memory, Move, Steps};
+use words::{Ledger, Memory, Move, Steps};
 
 /// Adds the term of the entry at a place, where there is one other than 0.
 fn push_entry(

@@ -17,9 +17,8 @@ use hall_set::HallSet;
 use increments::Row;
 use std::alloc::Global;
 use std::sync::Arc;
-use std::sync::ledger::Ledger;
 use tensor_product::{ProductFault, Sig, extend_row, multiply_in, product};
-use words::{Memory, Move, Steps};
+use words::{Ledger, Memory, Move, Steps};
 
 /// A node that was missed, with its signature.
 #[derive(Drop)]

@@ -10,13 +10,11 @@ use hall_set::HallSet;
 use increments::{Name, Row, RowList};
 use scaled_tensor::Tensor;
 use std::alloc::Global;
-use std::marker::Brand;
 use std::process::Abort;
 use std::sync::Arc;
-use std::sync::ledger::{Blank, Ledger};
 use std::test::Fail;
 use tensor_product::{ProductFault, Sig, exp_move};
-use words::{Entries, Memory, Move, Shape, Steps};
+use words::{Entries, Free, Memory, Move, Shape, Steps};
 
 fn node(k: u64, n: i8) -> Result<Node, Fail> {
     Ok(Node::new(k, n).ok_or("no such node")?)
@@ -28,7 +26,7 @@ fn move_of(alloc: Global, shape: Shape, given: &[&[i64]]) -> Result<Move, Fail> 
     for part in given {
         parts.push(Entries::of(Vec::from_slice(alloc, part)?))?;
     }
-    Ok(Move::of(shape, parts).ok_or("no such move")?)
+    Ok(Move::of(alloc, shape, parts)?.ok_or("no such move")?)
 }
 
 /// A leaf of one row.
@@ -37,7 +35,7 @@ fn leaf(alloc: Global, shape: Shape, node: Node, tick: u64, entries: &[i64]) -> 
 {
     let x = move_of(alloc, shape, &[entries])?;
     let _weight = x.weight();
-    let name = Name::of(String::from_str(alloc, "a")?);
+    let name = Name::of(String::from_str(alloc, "a")?)?;
     let mut rows = Vec::new(alloc);
     rows.push(Row::new(name, tick, 1, x))?;
     Ok(Plan::Leaf(node, RowList::of(rows)))
@@ -54,35 +52,19 @@ fn work_of(alloc: Global, shape: Shape, plan: Plan) -> Result<Result<Work, WorkF
 }
 
 /// The solution of a work, with a count of its own.
-fn solved<L: Ledger>(
-    alloc: Global,
-    shape: Shape,
-    work: &Work,
-    blank: Blank,
-) -> Result<Solved, Memory>
+fn solved(alloc: Global, shape: Shape, work: &Work) -> Result<Solved, Memory>
     requires shape { work.now.extent ≡ shape }
-    requires name { blank.name ≡ L.name }
-    requires parts { blank.parts ≡ L.parts }
-    requires some { 0 < L.parts }
 {
-    let mut steps: Steps<L> = Steps::new(blank);
+    let mut steps = Steps::new(Free);
     let hall = HallSet::build(alloc, shape)?;
     solve(alloc, work, &hall, 1, &Through, &mut steps)
 }
 
 /// The signature of one row, with a count of its own.
-fn signed<L: Ledger>(
-    alloc: Global,
-    shape: Shape,
-    x: &Move,
-    blank: Blank,
-) -> Result<Sig, ProductFault>
+fn signed(alloc: Global, shape: Shape, x: &Move) -> Result<Sig, ProductFault>
     requires move_of { IsMove shape x.now }
-    requires name { blank.name ≡ L.name }
-    requires parts { blank.parts ≡ L.parts }
-    requires some { 0 < L.parts }
 {
-    let mut steps: Steps<L> = Steps::new(blank);
+    let mut steps = Steps::new(Free);
     let hall = HallSet::build(alloc, shape)?;
     row_sig(alloc, x, &hall, &mut steps)
 }
@@ -103,7 +85,7 @@ fn one_leaf(rt: HostRuntime) -> Result<(), Fail> {
     let work = work_of(alloc, shape, plan)??;
     assert_eq!(rt; work.version(), 1);
     assert_eq!(rt; (work.hits(), work.misses(), work.exps()), (0, 1, 1));
-    let solved = solved::<Brand>(alloc, shape, &work, Blank::new(1))?;
+    let solved = solved(alloc, shape, &work)?;
     levels_are(&rt, &solved.sig, &[&[1], &[2, 3], &[4, 6, 6, 9]]);
     assert_eq!(rt; solved.sig.weight(), 3);
     assert_eq!(rt; solved.nodes.len(), 1);
@@ -126,7 +108,7 @@ fn halves_of_a_split(rt: HostRuntime) -> Result<(), Fail> {
     assert_eq!(rt; plan.node(), node(0, 0)?);
     let work = work_of(alloc, shape, plan)??;
     assert_eq!(rt; (work.hits(), work.misses(), work.exps()), (1, 4, 2));
-    let solved = solved::<Brand>(alloc, shape, &work, Blank::new(1))?;
+    let solved = solved(alloc, shape, &work)?;
     levels_are(&rt, &solved.sig, &[&[1], &[1, 1], &[1, 2, 0, 1]]);
     let mut nodes = Vec::new(alloc);
     for solved in &solved.nodes {
@@ -166,7 +148,7 @@ fn signature_of_a_bracket(rt: HostRuntime) -> Result<(), Fail> {
     let x = move_of(alloc, shape, &[&[0, 0], &[1]])?;
     assert_eq!(rt; x.weight(), 2);
     if x.shape() == shape {
-        let sig = signed::<Brand>(alloc, shape, &x, Blank::new(1))?;
+        let sig = signed(alloc, shape, &x)?;
         levels_are(&rt, &sig, &[&[1], &[0, 0], &[0, 2, -2, 0]]);
         assert_eq!(rt; sig.weight(), 2);
     }
@@ -174,18 +156,10 @@ fn signature_of_a_bracket(rt: HostRuntime) -> Result<(), Fail> {
 }
 
 /// The exponential of the tensor of a move's Lie element, with a count of its own.
-fn exponential<L: Ledger>(
-    alloc: Global,
-    z: &Tensor,
-    sizes: &[u128],
-    blank: Blank,
-) -> Result<Sig, ProductFault>
+fn exponential(alloc: Global, z: &Tensor, sizes: &[u128]) -> Result<Sig, ProductFault>
     requires sized { HasSizes z.now sizes.now }
-    requires name { blank.name ≡ L.name }
-    requires parts { blank.parts ≡ L.parts }
-    requires some { 0 < L.parts }
 {
-    let mut steps: Steps<L> = Steps::new(blank);
+    let mut steps = Steps::new(Free);
     exp_move(alloc, z, sizes, &mut steps)
 }
 
@@ -199,7 +173,7 @@ fn exponential_of_a_bracket(rt: HostRuntime) -> Result<(), Fail> {
         let z = sized_tensor(alloc, &x, &hall, &mut sizes)?;
         assert_eq!(rt; sizes, [0, 2]);
         assert_eq!(rt; z.level(2), [0, 1, -1, 0].as_slice());
-        let sig = exponential::<Brand>(alloc, &z, &sizes, Blank::new(1))?;
+        let sig = exponential(alloc, &z, &sizes)?;
         levels_are(&rt, &sig, &[&[1], &[0, 0], &[0, 2, -2, 0]]);
         assert_eq!(rt; sig.weight(), 2);
     }
@@ -217,7 +191,7 @@ fn heaviest_bracket(rt: HostRuntime) -> Result<(), Fail> {
         let x = move_of(alloc, shape, &[&[0, 0], &[entry]])?;
         assert_eq!(rt; x.weight(), weight);
         if x.shape() == shape {
-            let sig = signed::<Brand>(alloc, shape, &x, Blank::new(1));
+            let sig = signed(alloc, shape, &x);
             assert_eq!(rt; sig.err(), fault);
         }
     }

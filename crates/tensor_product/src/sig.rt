@@ -13,8 +13,7 @@ use crate::multiply::join_bounded;
 use scaled_tensor::Tensor;
 use std::alloc::Global;
 use std::marker::Model;
-use std::sync::ledger::Ledger;
-use words::{Bound, Memory, Shape, Steps, greatest_entry, weight_of};
+use words::{Bound, Ledger, Memory, Shape, Steps, greatest_entry, weight_of};
 
 /// A signature up to the depth of its shape: at a word of k letters the numerator over k!. Its
 /// weight is the sum of the weights of the moves; no coefficient of k letters is greater than the

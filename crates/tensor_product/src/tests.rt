@@ -2,19 +2,13 @@ ghost use Rattle.std.specs.Prelude.{◌≡◌, ◌<◌, length, IfOk};
 
 use crate::{Overflow, ProductFault, Sig, exp_row, extend_row, multiply_in, product};
 use std::alloc::Global;
-use std::marker::Brand;
 use std::process::Abort;
-use std::sync::ledger::{Blank, Ledger};
 use std::test::Fail;
-use words::{Shape, Steps};
+use words::{Free, Shape, Steps};
 
 /// Extends a signature by rows, up to the first that does not fit.
-fn extend_rows<L: Ledger>(sig: &mut Sig, rows: &[&[i64]], blank: Blank) -> Result<(), Overflow>
-    requires name { blank.name ≡ L.name }
-    requires parts { blank.parts ≡ L.parts }
-    requires some { 0 < L.parts }
-{
-    let mut steps: Steps<L> = Steps::new(blank);
+fn extend_rows(sig: &mut Sig, rows: &[&[i64]]) -> Result<(), Overflow> {
+    let mut steps = Steps::new(Free);
     for row in rows {
         if row.len() == sig.tensor().shape().width() as usize {
             extend_row(sig, row, &mut steps)?;
@@ -24,19 +18,11 @@ fn extend_rows<L: Ledger>(sig: &mut Sig, rows: &[&[i64]], blank: Blank) -> Resul
 }
 
 /// The exponential of a row, with a count of its own.
-fn exponential<L: Ledger>(
-    alloc: Global,
-    shape: Shape,
-    row: &[i64],
-    blank: Blank,
-) -> Result<Sig, ProductFault>
-    requires name { blank.name ≡ L.name }
-    requires parts { blank.parts ≡ L.parts }
-    requires some { 0 < L.parts }
+fn exponential(alloc: Global, shape: Shape, row: &[i64]) -> Result<Sig, ProductFault>
     requires row { length row.now ≡ shape.width }
     ensures { IfOk result (λ s. s.tensor.extent ≡ shape) }
 {
-    let mut steps: Steps<L> = Steps::new(blank);
+    let mut steps = Steps::new(Free);
     exp_row(alloc, shape, row, &mut steps)
 }
 
@@ -54,7 +40,7 @@ fn unit_and_two_rows(rt: HostRuntime) -> Result<(), Fail> {
     let mut sig = Sig::unit(rt.alloc(), shape)?;
     levels_are(&rt, &sig, &[&[1], &[0, 0], &[0, 0, 0, 0]]);
     assert_eq!(rt; sig.weight(), 0);
-    let extended = extend_rows::<Brand>(&mut sig, &[&[1, 0], &[0, 1]], Blank::new(1));
+    let extended = extend_rows(&mut sig, &[&[1, 0], &[0, 1]]);
     assert_eq!(rt; extended, Ok(()));
     levels_are(&rt, &sig, &[&[1], &[1, 1], &[1, 2, 0, 1]]);
     assert_eq!(rt; sig.weight(), 2);
@@ -73,7 +59,7 @@ fn copy_of_the_unit(rt: HostRuntime) -> Result<(), Fail> {
 #[test]
 fn exponential_of_a_row(rt: HostRuntime) -> Result<(), Fail> {
     let shape = Shape::new(2, 2)?;
-    let sig = exponential::<Brand>(rt.alloc(), shape, &[2, 3], Blank::new(1))?;
+    let sig = exponential(rt.alloc(), shape, &[2, 3])?;
     levels_are(&rt, &sig, &[&[1], &[2, 3], &[4, 6, 6, 9]]);
     assert_eq!(rt; sig.weight(), 3);
     Ok(())
@@ -82,8 +68,8 @@ fn exponential_of_a_row(rt: HostRuntime) -> Result<(), Fail> {
 #[test]
 fn product_of_exponentials(rt: HostRuntime) -> Result<(), Fail> {
     let shape = Shape::new(2, 2)?;
-    let first = exponential::<Brand>(rt.alloc(), shape, &[1, 0], Blank::new(1))?;
-    let second = exponential::<Brand>(rt.alloc(), shape, &[0, 1], Blank::new(1))?;
+    let first = exponential(rt.alloc(), shape, &[1, 0])?;
+    let second = exponential(rt.alloc(), shape, &[0, 1])?;
     let both = product(rt.alloc(), &first, &second)?;
     levels_are(&rt, &both, &[&[1], &[1, 1], &[1, 2, 0, 1]]);
     assert_eq!(rt; both.weight(), 2);
@@ -93,10 +79,10 @@ fn product_of_exponentials(rt: HostRuntime) -> Result<(), Fail> {
 #[test]
 fn row_after_a_product(rt: HostRuntime) -> Result<(), Fail> {
     let shape = Shape::new(2, 2)?;
-    let first = exponential::<Brand>(rt.alloc(), shape, &[1, 0], Blank::new(1))?;
-    let second = exponential::<Brand>(rt.alloc(), shape, &[0, 1], Blank::new(1))?;
+    let first = exponential(rt.alloc(), shape, &[1, 0])?;
+    let second = exponential(rt.alloc(), shape, &[0, 1])?;
     let mut both = product(rt.alloc(), &first, &second)?;
-    let extended = extend_rows::<Brand>(&mut both, &[&[2, 3]], Blank::new(1));
+    let extended = extend_rows(&mut both, &[&[2, 3]]);
     assert_eq!(rt; extended, Ok(()));
     levels_are(&rt, &both, &[&[1], &[3, 4], &[9, 14, 10, 16]]);
     assert_eq!(rt; both.weight(), 5);
@@ -106,9 +92,9 @@ fn row_after_a_product(rt: HostRuntime) -> Result<(), Fail> {
 #[test]
 fn products_in_place(rt: HostRuntime) -> Result<(), Fail> {
     let shape = Shape::new(2, 2)?;
-    let mut sig = exponential::<Brand>(rt.alloc(), shape, &[1, 0], Blank::new(1))?;
-    let second = exponential::<Brand>(rt.alloc(), shape, &[0, 1], Blank::new(1))?;
-    let third = exponential::<Brand>(rt.alloc(), shape, &[2, 3], Blank::new(1))?;
+    let mut sig = exponential(rt.alloc(), shape, &[1, 0])?;
+    let second = exponential(rt.alloc(), shape, &[0, 1])?;
+    let third = exponential(rt.alloc(), shape, &[2, 3])?;
     assert_eq!(rt; multiply_in(&mut sig, &second), Ok(()));
     levels_are(&rt, &sig, &[&[1], &[1, 1], &[1, 2, 0, 1]]);
     assert_eq!(rt; multiply_in(&mut sig, &third), Ok(()));
@@ -121,7 +107,7 @@ fn products_in_place(rt: HostRuntime) -> Result<(), Fail> {
 fn products_by_the_unit(rt: HostRuntime) -> Result<(), Fail> {
     let shape = Shape::new(2, 2)?;
     let unit = Sig::unit(rt.alloc(), shape)?;
-    let row = exponential::<Brand>(rt.alloc(), shape, &[2, 3], Blank::new(1))?;
+    let row = exponential(rt.alloc(), shape, &[2, 3])?;
     let mut sig = Sig::unit(rt.alloc(), shape)?;
     assert_eq!(rt; multiply_in(&mut sig, &row), Ok(()));
     levels_are(&rt, &sig, &[&[1], &[2, 3], &[4, 6, 6, 9]]);
@@ -134,8 +120,8 @@ fn products_by_the_unit(rt: HostRuntime) -> Result<(), Fail> {
 #[test]
 fn product_in_place_past_the_limit(rt: HostRuntime) -> Result<(), Fail> {
     let shape = Shape::new(1, 8)?;
-    let mut sig = exponential::<Brand>(rt.alloc(), shape, &[60096], Blank::new(1))?;
-    let row = exponential::<Brand>(rt.alloc(), shape, &[1], Blank::new(1))?;
+    let mut sig = exponential(rt.alloc(), shape, &[60096])?;
+    let row = exponential(rt.alloc(), shape, &[1])?;
     assert_eq!(rt; multiply_in(&mut sig, &row), Err(Overflow(60097)));
     assert_eq!(rt; sig.weight(), 60096);
     assert_eq!(rt; sig.tensor().level(1), [60096].as_slice());
@@ -145,7 +131,7 @@ fn product_in_place_past_the_limit(rt: HostRuntime) -> Result<(), Fail> {
 #[test]
 fn exponential_past_the_limit(rt: HostRuntime) -> Result<(), Fail> {
     let shape = Shape::new(1, 8)?;
-    let sig = exponential::<Brand>(rt.alloc(), shape, &[60097], Blank::new(1));
+    let sig = exponential(rt.alloc(), shape, &[60097]);
     assert_eq!(rt; sig.err(), Some(ProductFault::Overflow(60097)));
     Ok(())
 }
@@ -155,7 +141,7 @@ fn weight_decides_overflow(rt: HostRuntime) -> Result<(), Fail> {
     let shape = Shape::new(1, 8)?;
     for (entry, expected) in [(60096, Ok(())), (60097, Err(Overflow(60097)))] {
         let mut sig = Sig::unit(rt.alloc(), shape)?;
-        let extended = extend_rows::<Brand>(&mut sig, &[&[entry]], Blank::new(1));
+        let extended = extend_rows(&mut sig, &[&[entry]]);
         assert_eq!(rt; extended, expected);
         let weight = if extended.is_ok() { 60096 } else { 0 };
         assert_eq!(rt; sig.weight(), weight);

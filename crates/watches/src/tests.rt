@@ -26,11 +26,11 @@ fn single(alloc: Global, shape: Shape) -> Result<Move, Fail>
 {
     let mut parts = Vec::new(alloc);
     parts.push(Entries::of(Vec::from_slice(alloc, &[7])?))?;
-    Ok(Move::of(shape, parts).ok_or("refused")?)
+    Ok(Move::of(alloc, shape, parts)?.ok_or("refused")?)
 }
 
 fn name(alloc: Global, text: &str) -> Result<Name, Fail> {
-    Ok(Name::of(String::from_str(alloc, text)?))
+    Ok(Name::of(String::from_str(alloc, text)?)?)
 }
 
 fn edit_of(alloc: Global, shape: Shape, given: Given) -> Result<Edit, Fail>

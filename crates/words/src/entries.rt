@@ -1,7 +1,5 @@
-ghost use Rattle.std.specs.Prelude.{◌≡◌, IfOk};
+ghost use Rattle.std.specs.Prelude.{◌≡◌};
 
-use crate::memory::Memory;
-use std::alloc::Global;
 use std::marker::Model;
 
 /// A list of whole numbers: the entries of a part of a move.
@@ -31,14 +29,5 @@ impl Entries {
         ensures { result.now ≡ self.now }
     {
         &self.entries
-    }
-
-    /// An equal list.
-    pub fn copy(&self, alloc: Global) -> Result<Entries, Memory>
-        ensures { IfOk result (λ e. e ≡ self.now) }
-    {
-        Ok(Entries {
-            entries: Vec::from_slice(alloc, &self.entries)?,
-        })
     }
 }

@@ -25,6 +25,6 @@ pub use numbers::{binom, factorial, lcm_to, lie_den, log_bound, log_den, sig_den
 pub use parts::{MoveParts, greatest_entry};
 pub use roots::root;
 pub use shape::{Shape, ShapeFault};
-pub use steps::{Free, Steps};
+pub use steps::{Free, Ledger, Steps};
 pub use weights::weight_of;
 pub use word::Word;

@@ -1,4 +1,4 @@
-ghost use Rattle.std.specs.Prelude.{◌≡◌, ◌-◌, ◌≤◌, ◌^◌, ◌↔◌, All, [], length, slice_index_or, IfOk, IfSome, IfNone, IsTrue};
+ghost use Rattle.std.specs.Prelude.{◌≡◌, ◌-◌, ◌≤◌, ◌^◌, ◌↔◌, All, [], length, slice_index_or, IfOk, OnErr, IfSome, IfNone, IsTrue};
 ghost use Rattle.definitions.specs.Moves.{IsMove, IsPlain, AreParts, padded, total, sizes_of, move_weight};
 
 use crate::entries::Entries;
@@ -7,17 +7,16 @@ use crate::parts::MoveParts;
 use crate::shape::Shape;
 use std::alloc::Global;
 use std::marker::Model;
+use std::sync::Arc;
 
-/// What a row adds to the stream, seen as its parts of degree 1 to N: as many as the shape is deep.
-/// The first part has an entry for each letter of the shape; the entries of part j are Hall coordinates of degree j.
-/// Parts that were not given are empty. The weight is worked out once, when the move is made.
+/// Parts with their weight, which is worked out once.
 #[derive(Drop)]
-pub struct Move {
+struct Weighed {
     parts: MoveParts,
     weight: u128,
 }
 
-impl Model for Move {
+impl Model for Weighed {
     ghost use Rattle.std.specs.Prelude.{◌≡◌, ◌≤◌, ◌^◌};
     ghost use Rattle.definitions.specs.Moves.{Parts, move_weight};
 
@@ -31,23 +30,44 @@ impl Model for Move {
     } };
 }
 
+/// What a row adds to the stream, seen as its parts of degree 1 to N: as many as the shape is deep.
+/// The first part has an entry for each letter of the shape; the entries of part j are Hall coordinates of degree j.
+/// Parts that were not given are empty. A move is never changed, so its copies share it.
+#[derive(Drop)]
+pub struct Move {
+    shared: Arc<Weighed>,
+}
+
+impl Model for Move {
+    ghost use Rattle.std.specs.Arc.{arc_value};
+    ghost use Rattle.definitions.specs.Moves.{Parts};
+
+    ghost Value = { Parts };
+
+    ghost view = { λ m. arc_value m.shared };
+}
+
 impl Move {
     /// The move of these parts, or `None` exactly where there are none or more than the shape is deep, the first hasn't an entry for
-    /// each letter, or some part has 2^32 entries or more. Takes no memory; parts that are refused are dropped.
-    pub fn of(shape: Shape, parts: Vec<Entries>) -> Option<Move>
-        ensures given { IfSome result (λ m. IsMove shape m × (m ≡ padded shape.depth parts.items)) }
-        ensures refused { IfNone result (AreParts shape parts.items → ⊥) }
+    /// each letter, or some part has 2^32 entries or more. Parts that are refused are dropped.
+    pub fn of(alloc: Global, shape: Shape, parts: Vec<Entries>) -> Result<Option<Move>, Memory>
+        ensures given { IfOk result (λ made. IfSome made (λ m. IsMove shape m × (m ≡ padded shape.depth parts.items))) }
+        ensures refused { IfOk result (λ made. IfNone made (AreParts shape parts.items → ⊥)) }
+        ensures memory { OnErr result (AreParts shape parts.items) }
     {
-        let parts = MoveParts::of(shape, parts)?;
+        let Some(parts) = MoveParts::of(shape, parts) else {
+            return Ok(None);
+        };
         let weight = parts.weight();
-        Some(Move { parts, weight })
+        let shared = Arc::new(alloc, Weighed { parts, weight })?;
+        Ok(Some(Move { shared }))
     }
 
     /// The shape, whose depth is the number of parts.
     pub fn shape(&self) -> Shape
         ensures { IsMove result self.now }
     {
-        self.parts.shape()
+        self.shared.parts.shape()
     }
 
     /// The entries of the part of degree k, from 1.
@@ -56,14 +76,14 @@ impl Move {
         requires within { k ≤ length self.now }
         ensures { result.now ≡ slice_index_or self.now (k - 1) [] }
     {
-        self.parts.part(k)
+        self.shared.parts.part(k)
     }
 
     /// Whether no part after the first has an entry other than 0.
     pub fn plain(&self) -> bool
         ensures { IsTrue result ↔ IsPlain self.now }
     {
-        self.parts.plain()
+        self.shared.parts.plain()
     }
 
     /// Bounds of the coefficients of the move's Lie element, by degree: the greatest absolute entry of
@@ -75,7 +95,7 @@ impl Move {
         ensures small { All (λ p. p ≤ 2 ^ 102) sizes.new }
         ensures totals { All (λ part. total part ≤ 2 ^ 95) self.now }
     {
-        self.parts.write_sizes(sizes);
+        self.shared.parts.write_sizes(sizes);
     }
 
     /// A bound on the move's step: its coefficient at k letters is at most the k-th power of this.
@@ -83,16 +103,14 @@ impl Move {
         ensures value { result ≡ move_weight self.now }
         ensures bound { result ≤ 2 ^ 64 }
     {
-        self.weight
+        self.shared.weight
     }
 
-    /// An equal move.
-    pub fn copy(&self, alloc: Global) -> Result<Move, Memory>
+    /// An equal move, which shares the parts of this one.
+    pub fn copy(&self) -> Result<Move, Memory>
         ensures { IfOk result (λ m. m ≡ self.now) }
     {
-        Ok(Move {
-            parts: self.parts.copy(alloc)?,
-            weight: self.weight,
-        })
+        let shared = Arc::try_clone(&self.shared)?;
+        Ok(Move { shared })
     }
 }

@@ -1,13 +1,11 @@
 //! The parts of a move, and what its weight is made of.
-ghost use Rattle.std.specs.Prelude.{◌≡◌, ◌-◌, ◌<◌, ◌≤◌, ◌^◌, ◌↔◌, List, All, [], ◌∷◌, length, slice_index_or, IfOk, IfSome, IfNone, IsTrue};
+ghost use Rattle.std.specs.Prelude.{◌≡◌, ◌-◌, ◌<◌, ◌≤◌, ◌^◌, ◌↔◌, List, All, [], ◌∷◌, length, slice_index_or, IfSome, IfNone, IsTrue};
 ghost use Rattle.definitions.specs.Moves.{IsMove, IsPlain, AreParts, padded, greatest, total, sizes_of, move_weight};
 ghost use Rattle.words.specs.Sizes.{size_at};
 
 use crate::entries::Entries;
-use crate::memory::Memory;
 use crate::shape::Shape;
 use crate::weights::{total_of, weight_of};
-use std::alloc::Global;
 use std::marker::Model;
 
 /// The parts of a move, seen as its parts of degree 1 to N: as many as the shape is deep. Parts that were not given are empty.
@@ -99,6 +97,7 @@ impl MoveParts {
     /// These parts, or `None` exactly where there are none or more than the shape is deep, the first hasn't an entry for
     /// each letter, or some part has 2^32 entries or more. Takes no memory; parts that are refused are dropped.
     pub fn of(shape: Shape, parts: Vec<Entries>) -> Option<MoveParts>
+        ensures parts { IfSome result (λ m. AreParts shape parts.items) }
         ensures given { IfSome result (λ m. IsMove shape m × (m ≡ padded shape.depth parts.items)) }
         ensures refused { IfNone result (AreParts shape parts.items → ⊥) }
     {
@@ -166,19 +165,5 @@ impl MoveParts {
         let sizes = &mut all[..self.shape.depth() as usize];
         self.write_sizes(sizes);
         weight_of(sizes)
-    }
-
-    /// Equal parts.
-    pub fn copy(&self, alloc: Global) -> Result<MoveParts, Memory>
-        ensures { IfOk result (λ m. m ≡ self.now) }
-    {
-        let mut parts = Vec::with_capacity(alloc, self.parts.len())?;
-        for part in &self.parts {
-            parts.push(part.copy(alloc)?)?;
-        }
-        Ok(MoveParts {
-            shape: self.shape,
-            parts,
-        })
     }
 }

@@ -1,44 +1,47 @@
-ghost use Rattle.std.specs.Prelude.{◌≡◌, ◌+◌, ◌<◌};
+ghost use Rattle.std.specs.Prelude.{◌≡◌, ◌+◌};
 
-use std::marker::{Brand, Model};
-use std::sync::ledger::{Blank, Book, Ledger, Share};
+use http_server::Log;
+use std::marker::{Model, PhantomData};
+
+/// What units are counted for.
+pub trait Ledger: Drop + Send {}
 
 /// The ledger of a program whose count nobody reads.
-pub type Free = Brand;
+#[derive(Drop)]
+pub struct Free;
+
+impl Ledger for Free {}
 
 /// How many units were taken. It takes no bytes, and only `tick` changes it.
 #[derive(Drop)]
 pub struct Steps<L: Ledger> {
-    book: Book<L>,
-    share: Share<L>,
+    ticks: Log<(), ()>,
+    ledger: PhantomData<L>,
 }
 
 impl<L: Ledger> Model for Steps<L> {
-    ghost use Rattle.std.specs.Prelude.{ℕ, ◌<◌};
+    ghost use Rattle.std.specs.Prelude.{ℕ, length};
 
     ghost Value = { ℕ };
 
-    ghost view = { λ s. s.book.total };
-
-    ghost invariant = { λ s. 0 < s.share.parts };
+    ghost view = { λ s. length s.ticks.items };
 }
 
 impl<L: Ledger> Steps<L> {
-    /// A count of 0, over a new ledger.
-    pub fn new(blank: Blank) -> Steps<L>
-        requires name { blank.name ≡ L.name }
-        requires parts { blank.parts ≡ L.parts }
-        requires some { 0 < L.parts }
+    /// A count of 0, for this ledger.
+    pub fn new(_ledger: L) -> Steps<L>
         ensures { result ≡ 0 }
     {
-        let (book, share) = blank.open();
-        Steps { book, share }
+        Steps {
+            ticks: Log::new(),
+            ledger: PhantomData,
+        }
     }
 
     /// One unit more.
     pub fn tick(&mut self)
         ensures { self.new ≡ self.old + 1 }
     {
-        self.book.add(&mut self.share, 1);
+        self.ticks = self.ticks.and(&(), &());
     }
 }

@@ -41,7 +41,7 @@ fn move_of(alloc: Global, shape: Shape, given: &[&[i64]]) -> Result<Option<Move>
     for part in given {
         parts.push(Entries::of(Vec::from_slice(alloc, part)?))?;
     }
-    Ok(Move::of(shape, parts))
+    Ok(Move::of(alloc, shape, parts)?)
 }
 
 #[test]
@@ -60,7 +60,7 @@ fn parts_of_moves(rt: HostRuntime) -> Result<(), Fail> {
     assert_eq!(rt; straight.weight(), 3);
     let turning = move_of(alloc, shape, &[&[2, -3], &[5]])?.ok_or("refused")?;
     assert!(rt; !turning.plain());
-    let copy = turning.copy(alloc)?;
+    let copy = turning.copy()?;
     if copy.shape().depth() == 2 {
         assert_eq!(rt; copy.part(1), [2, -3].as_slice());
         assert_eq!(rt; copy.part(2), [5].as_slice());

@@ -55,7 +55,7 @@ pub(crate) fn read_append(
     let Some(entries) = entries_from(alloc, words, 3)? else {
         return Err(LineFault::Bad(Reason::Number));
     };
-    let name = Name::of(name_text(alloc, word_at(words, 1))?);
+    let name = Name::of(name_text(alloc, word_at(words, 1))?)?;
     let x = lie_move(alloc, shape, counts, degree, entries)?;
     Ok(Said::Command(Command::Edit(Edit::Append { name, tick, x })))
 }
@@ -83,7 +83,7 @@ pub(crate) fn read_correct(
     let Some(entries) = entries_from(alloc, words, 2)? else {
         return Err(LineFault::Bad(Reason::Number));
     };
-    let name = Name::of(name_text(alloc, word_at(words, 1))?);
+    let name = Name::of(name_text(alloc, word_at(words, 1))?)?;
     let x = lie_move(alloc, shape, counts, degree, entries)?;
     Ok(Said::Command(Command::Edit(Edit::Correct { name, x })))
 }
@@ -101,6 +101,6 @@ pub(crate) fn read_remove(alloc: Global, tally: &Tally, words: &[&[u8]]) -> Resu
     if !is_name(word_at(words, 1)) {
         return Err(LineFault::Bad(Reason::Name));
     }
-    let name = Name::of(name_text(alloc, word_at(words, 1))?);
+    let name = Name::of(name_text(alloc, word_at(words, 1))?)?;
     Ok(Said::Command(Command::Edit(Edit::Remove { name })))
 }

@@ -1,4 +1,9 @@
+use Rattle.std.proofs.Common.{◌≡◌, take}
+use Rattle.tensor_product.specs.Sigs.{StandsFor}
 use Rattle.cbh_calc.proofs.products.signature_of.Given as goal
 
-abbrev pub ghosts-counted : goal.ghosts-counted
-ghosts-counted a = record { name = a.blank.name; parts = a.blank.parts }
+abbrev pub invariant-loop-x : goal.invariant-loop-x
+invariant-loop-x l = record {
+  extent : l.sig.tensor.extent ≡ l.hall;
+  stands : StandsFor l.sig (take l.x-index l.moves);
+}

@@ -18,7 +18,7 @@ solve_plan-requires-in-Split g t c κs within =
     let fewer : length (missed c.deref-in-Split-2.result.now) < length (missed plan) = subst (λ (p : Plan). length (missed p) < length (missed plan)) (sym c.deref-in-Split-2.ensures) (left-misses plan node left right c.in-Split.is) in
     let fits : plan_weight c.deref-in-Split-2.result.now ^ c.args.hall.now.depth ≤ limit = subst (λ (p : Plan). plan_weight p ^ c.args.hall.now.depth ≤ limit) (sym c.deref-in-Split-2.ensures) (left-fits plan node left right c.in-Split.is c.args.hall.now.depth c.requires.fits) in
     let valid : IsValid c.args.hall.now c.deref-in-Split-2.result.now = subst (IsValid c.args.hall.now) (sym c.deref-in-Split-2.ensures) (subst (IsValid c.args.hall.now) c.in-Split.is c.requires.valid).1 in
-    (omega arith, (within, (valid, fits)))
+    (omega arith, (within, (search, (valid, fits))))
 
 pub solve_plan-requires-in-Split-2 : goal.solve_plan-requires-in-Split-2
 solve_plan-requires-in-Split-2 g t c κs within =
@@ -26,7 +26,7 @@ solve_plan-requires-in-Split-2 g t c κs within =
     let fewer : length (missed c.deref-in-Split-3.result.now) < length (missed plan) = subst (λ (p : Plan). length (missed p) < length (missed plan)) (sym c.deref-in-Split-3.ensures) (right-misses plan node left right c.in-Split.is) in
     let fits : plan_weight c.deref-in-Split-3.result.now ^ c.args.hall.now.depth ≤ limit = subst (λ (p : Plan). plan_weight p ^ c.args.hall.now.depth ≤ limit) (sym c.deref-in-Split-3.ensures) (right-fits plan node left right c.in-Split.is c.args.hall.now.depth c.requires.fits) in
     let valid : IsValid c.args.hall.now c.deref-in-Split-3.result.now = subst (IsValid c.args.hall.now) (sym c.deref-in-Split-3.ensures) (subst (IsValid c.args.hall.now) c.in-Split.is c.requires.valid).2 in
-    (omega arith, (within, (valid, fits)))
+    (omega arith, (within, (search, (valid, fits))))
 
 pub returns-in_ok-new-in-Leaf-clause-nodes : goal.returns-in_ok-new-in-Leaf-clause-nodes
 returns-in_ok-new-in-Leaf-clause-nodes g t c =

@@ -9,7 +9,7 @@ use Rattle.solve.proofs.PlanLists.{plan-fits, sum-fits, missed-more, count-more,
 use Rattle.solve.proofs.solution.solve_plans.Goals as goal
 
 pub solve_plan-requires-clause-fits : goal.solve_plan-requires-clause-fits
-solve_plan-requires-clause-fits g c = plan-fits c.args.plans.now c.loop-plan.plan-index c.plan-item.result c.loop-plan-test.true c.plan-item.is c.args.hall.now.depth c.requires.fits
+solve_plan-requires-clause-fits g c κs lives = plan-fits c.args.plans.now c.loop-plan.plan-index c.plan-item.result c.loop-plan-test.true c.plan-item.is c.args.hall.now.depth c.requires.fits
 
 pub returns-in_err-next-clause-at_most : goal.returns-in_err-next-clause-at_most
 returns-in_err-next-clause-at_most g c =

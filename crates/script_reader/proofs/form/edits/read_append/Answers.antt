@@ -17,4 +17,4 @@ returns c =
       move = c.in_ok-x.ensures.0;
       is = c.in_ok-x.ensures.1 ∙ ap (lie_move shape) entries.1;
     } in
-    append_reads c.args.tally.now spelled shape c.of-name.result c.in-Some-tick_at.tick c.in_ok-x.x opening row (search rules) (search rules) c.in-Some-tick_at.ensures.0 c.in-Some-tick_at.ensures.1 (omega (arith, c.in-Some-tick_at.ensures.2))
+    append_reads c.args.tally.now spelled shape c.in_ok-name.name c.in-Some-tick_at.tick c.in_ok-x.x opening row (search rules) (search rules) c.in-Some-tick_at.ensures.0 c.in-Some-tick_at.ensures.1 (omega (arith, c.in-Some-tick_at.ensures.2))

@@ -17,4 +17,4 @@ returns c =
       move = c.in_ok-x.ensures.0;
       is = c.in_ok-x.ensures.1 ∙ ap (lie_move shape) entries.1;
     } in
-    correct_reads c.args.tally.now spelled shape c.of-name.result c.in_ok-x.x opening row (search rules) (search rules)
+    correct_reads c.args.tally.now spelled shape c.in_ok-name.name c.in_ok-x.x opening row (search rules) (search rules)

@@ -3,10 +3,10 @@ use Rattle.std.proofs.Math.Nat.{pow-le-pow_left, le_trans}
 use Rattle.std.proofs.lemmas.List.Sums.{sum_by_more_le}
 use Rattle.definitions.specs.Moves.{move_weight}
 use Rattle.definitions.specs.Signature.{weight}
-use Rattle.cbh_calc.proofs.products.counted.Goals as goal
+use Rattle.cbh_calc.proofs.products.signature_of.Goals as goal
 
 pub add_row-requires-clause-fits : goal.add_row-requires-clause-fits
-add_row-requires-clause-fits g c =
+add_row-requires-clause-fits c κs =
     let moves = c.args.moves.now in
     let x = c.x-item.result in
     let lighter : c.loop-x.sig.weight + move_weight x ≤ weight moves =

@@ -1,9 +1,0 @@
-use Rattle.std.proofs.Common.{◌≡◌, take}
-use Rattle.tensor_product.specs.Sigs.{StandsFor}
-use Rattle.cbh_calc.proofs.products.counted.Given as goal
-
-abbrev pub invariant-loop-x : goal.invariant-loop-x
-invariant-loop-x g l = record {
-  extent : l.sig.tensor.extent ≡ l.hall;
-  stands : StandsFor l.sig (take l.x-index l.moves);
-}

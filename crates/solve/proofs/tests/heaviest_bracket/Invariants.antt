@@ -1,4 +1,0 @@
-use Rattle.solve.proofs.tests.heaviest_bracket.Given as goal
-
-abbrev pub ghosts-signed : goal.ghosts-signed
-ghosts-signed g a = record { name = a.blank.name; parts = a.blank.parts }
