@@ -12,6 +12,13 @@ use std::alloc::{AllocFailed, Global};
 use std::snapshot::Snapshot;
 use std::sync::Wait;
 use std::thread;
+use std::time::Duration;
+
+/// How often a pass that waits tries again at once, before it naps between tries.
+const EAGER_TRIES: u32 = 8;
+
+/// How long a nap is at most, in microseconds: many times a hold, and far below what a person notices.
+const NAP: u64 = 50;
 
 /// Hands one value round among passes. Whoever has the turn has the value, and gives it back with
 /// at most one entry more. A pass that is dropped while it has the turn keeps it from the others.
@@ -85,6 +92,7 @@ impl<K: Kept> Turnstile<K> {
         ensures turn { view pass.new ≡ record (view pass.old) { turn = true; taken = K.entries result } }
         ensures value { Continues K.entries K.label K.frame (view pass.old) result }
     {
+        let mut tries: u32 = 0;
         for _ in rt.forever() {
             let word = self.table.shared.peek(0);
             if word % 2 == 0 {
@@ -99,9 +107,22 @@ impl<K: Kept> Turnstile<K> {
                     return state;
                 }
             }
-            thread::yield_now();
+            if tries < EAGER_TRIES {
+                tries += 1;
+                thread::yield_now();
+            } else {
+                self.nap(rt, word);
+            }
         }
         unreachable!()
+    }
+
+    /// Leaves the processor for a while, unless the word has changed since it was this.
+    fn nap<R: Wait>(&self, rt: &R, word: u64) {
+        let low = (word % (1 << 32)) as u32;
+        self.table
+            .shared
+            .park_timeout(rt, 0, low, Duration::from_micros(NAP));
     }
 
     /// Ends the turn with one entry more, which has the label of the pass.
