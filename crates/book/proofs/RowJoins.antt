@@ -1,11 +1,10 @@
 -- The rows of intervals that adjoin: their moves and weights add up to those of the whole.
-use Rattle.std.proofs.Common.{◌≡◌, ◌∙◌, ℕ, ◌+◌, ◌≤◌, refl, ap, arith, List, [], ◌∷◌, ◌++◌, false}
-use Rattle.std.proofs.lemmas.Bool.Decides.{nat_tests}
+use Rattle.std.proofs.Common.{◌≡◌, ◌∙◌, ℕ, ◌+◌, ◌≤◌, ap, arith, List, [], ◌∷◌, ◌++◌}
 use Rattle.std.proofs.lemmas.List.{map-append}
 use Rattle.std.proofs.lemmas.List.Sums.{sum_by-append}
 use Rattle.definitions.specs.Moves.{Parts, move_weight}
 use Rattle.definitions.specs.Signature.{weight}
-use Rattle.definitions.specs.Rows.{RowValue, lies_in, rows_in, moves_of}
+use Rattle.definitions.specs.Rows.{RowValue, rows_in, moves_of}
 use Rattle.dyadic.specs.Nodes.{NodeValue, low_of, high_of}
 use Rattle.dyadic.proofs.Spans.{low-lt-high}
 use Rattle.decompose.specs.Pieces.{Adjoin}

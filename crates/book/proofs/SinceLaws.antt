@@ -1,7 +1,6 @@
 -- The last version that touches an interval.
 use Rattle.std.proofs.Common.{◌≡◌, ◌∙◌, ℕ, zero, suc, ◌<◌, ◌≤◌, refl, sym, ap, subst, arith, true, false, T, cond, add-one, List, [], ◌++◌, length, get_or, inl, inr}
 use Rattle.std.proofs.lemmas.Bool.{cases_lt, cases_Bool}
-use Rattle.std.proofs.lemmas.Bool.Decides.{nat_tests}
 use Rattle.std.proofs.lemmas.List.{get_or_append_left, length-append}
 use Rattle.definitions.specs.Rows.{lies_in}
 use Rattle.versions.specs.declared.log.Accepted.{Accepted}
@@ -78,22 +77,3 @@ since-append a b edits more zero within = refl
 since-append a b edits more (suc v) within =
     ap (λ t. cond t (suc v) (since a b (edits ++ more) v)) (touched-append a b edits more v (omega arith))
     ∙ ap (λ n. cond (touched a b edits (suc v)) (suc v) n) (since-append a b edits more v (omega arith))
-
--- ---- an interval inside another
-lies_in-inside : (a b c d tick : ℕ) → a ≤ c → d ≤ b → lies_in a b tick ≡ false → lies_in c d tick ≡ false
-lies_in-inside a b c d tick low high out = grind (arith, nat_tests)
-
-touched-inside : (a b c d : ℕ) (edits : List Accepted) (v : ℕ) → v < length edits → a ≤ c → d ≤ b → touched a b edits (suc v) ≡ false → touched c d edits (suc v) ≡ false
-touched-inside a b c d edits v within low high out =
-    touched-at c d edits v within ∙ lies_in-inside a b c d (get_or edits v no_edit).tick low high (sym (touched-at a b edits v within) ∙ out)
-
--- the last version that touches the inner interval is the last one up to the last that touches the outer
-pub since-inside : (a b c d : ℕ) (edits : List Accepted) (v : ℕ) → v ≤ length edits → a ≤ c → d ≤ b → since c d edits v ≡ since c d edits (since a b edits v)
-since-inside a b c d edits zero within low high = refl
-since-inside a b c d edits (suc v) within low high =
-    elim (cases_Bool (touched a b edits (suc v))) [
-      | inl touches ↦ ap (since c d edits) (sym (since-touches a b edits v touches))
-      | inr passes ↦ (
-          since-passes c d edits v (touched-inside a b c d edits v (omega arith) low high passes) ∙ since-inside a b c d edits v (omega arith) low high
-          ∙ ap (since c d edits) (sym (since-passes a b edits v passes)))
-    ]

@@ -7,21 +7,19 @@ use Rattle.std.proofs.lemmas.Bool.Decides.{nat_tests}
 use Rattle.std.proofs.lemmas.Option.{same_Some, none-some}
 use Rattle.std.proofs.lemmas.List.Elements.{All-head, All-tail}
 use Rattle.definitions.specs.Words.{Extent}
-use Rattle.definitions.specs.Rows.{RowValue, rows_in, moves_of}
+use Rattle.definitions.specs.Rows.{RowValue, moves_of}
 use Rattle.dyadic.specs.Nodes.{NodeValue, IsNode, low_of, high_of, left_of, right_of}
-use Rattle.dyadic.proofs.Spans.{low-lt-high, halves-share}
 use Rattle.node_cache.specs.Entries.{Entry, is_of, entry_of, sig_of}
-use Rattle.increments.specs.Edits.{RowsValue}
 use Rattle.tensor_product.specs.Sigs.{SigValue, StandsFor}
 use Rattle.solve.specs.declared.plan.Plan.{Plan, Leaf as LeafPlan}
 use Rattle.solve.specs.declared.plan.Plan.TheViews.{Split as SplitPlan}
 use Rattle.versions.specs.declared.log.Accepted.{Accepted}
-use Rattle.versions.specs.Versions.{LogValue, IsLog, rows_at, since}
+use Rattle.versions.specs.Versions.{LogValue, IsLog, since}
+use Rattle.versions.specs.LogNodes.{LogNodeValue}
 use Rattle.versions.proofs.Untouched.{untouched-since}
 use Rattle.book.specs.Walks.{Pair, Visit, Hit, Unit, Leaf, Split, pair_at, is_kept, count_at, absent, visited, visit_of}
 use Rattle.book.specs.Plans.{node_rows, HasSignature, IsPlanOf}
 use Rattle.book.specs.Books.{Keeps, AreKept, held}
-use Rattle.book.proofs.SinceLaws.{since-inside}
 
 -- ---- the entry of a pair
 -- the signature is that of an entry of the pair
@@ -147,18 +145,11 @@ module _ (edits : List Accepted) (v : ℕ) (pairs : List Pair) where
   visit-halved node other lots some =
       visit-absent node other ∙ absent-many node (count_at edits v node) (rest node.height node.index) lots ∙ rest-halved node.height node.index some
 
--- ---- rows
--- the rows of a version that lie in the node
-pub rows-in_node : (log : LogValue) (v low high : ℕ) (node : NodeValue) (rows : RowsValue) → low ≡ low_of node → high ≡ high_of node → rows ≡ record { extent = log.extent; rows = rows_at log.edits v }
-    → rows_in low high rows.rows ≡ node_rows log.edits v node
-rows-in_node log v low high node rows begins ends are =
-    ap (λ (n : ℕ). rows_in n high rows.rows) begins ∙ ap (λ (n : ℕ). rows_in (low_of node) n rows.rows) ends
-    ∙ ap (λ (rs : RowsValue). rows_in (low_of node) (high_of node) rs.rows) are
-
+-- ---- halves
 -- a node without a half is of one tick
-pub no_half : (r : Option NodeValue) (node half : NodeValue) → SomeIff r (0 < node.height) half → r ≡ None → node.height ≡ 0
+pub no_half : (r : Option LogNodeValue) (node : NodeValue) (half : LogNodeValue) → SomeIff r (0 < node.height) half → r ≡ None → node.height ≡ 0
 no_half r node half is none =
-    let not_some : ¬ (0 < node.height) = subst (λ (o : Option NodeValue). SomeIff o (0 < node.height) half) none is in
+    let not_some : ¬ (0 < node.height) = subst (λ (o : Option LogNodeValue). SomeIff o (0 < node.height) half) none is in
     elim (cases_lt 0 node.height) [ inl some ↦ absurd (not_some some) | inr le ↦ omega (arith, le) ]
 
 -- ---- plans
@@ -199,29 +190,7 @@ module _ (log : LogValue) (entries : List Entry) (v s : ℕ) (node : NodeValue) 
         stands = subst (λ (rs : List RowValue). StandsFor sig (moves_of rs)) rows of_version.stands;
       }
 
-  half-untouched : (half : NodeValue) → v ≤ length log.edits → low_of node ≤ low_of half → high_of half ≤ high_of node
-      → since (low_of half) (high_of half) log.edits v ≡ since (low_of half) (high_of half) log.edits s
-  half-untouched half within after before =
-      since-inside (low_of node) (high_of node) (low_of half) (high_of half) log.edits v within after before ∙ ap (since (low_of half) (high_of half) log.edits) (sym same)
-
-  -- the left half was last touched, up to v, when it was up to the node's own version: nothing touched the node later
-  pub left-untouched : 0 < node.height → v ≤ length log.edits → since (low_of (left_of node)) (high_of (left_of node)) log.edits v ≡ since (low_of (left_of node)) (high_of (left_of node)) log.edits s
-  left-untouched some within =
-      let share = halves-share node some in
-      half-untouched (left_of node) within (omega (arith, share.begins)) (omega (arith, share.meets, share.ends, low-lt-high (right_of node)))
-
-  -- so was the right half
-  pub right-untouched : 0 < node.height → v ≤ length log.edits → since (low_of (right_of node)) (high_of (right_of node)) log.edits v ≡ since (low_of (right_of node)) (high_of (right_of node)) log.edits s
-  right-untouched some within =
-      let share = halves-share node some in
-      half-untouched (right_of node) within (omega (arith, share.begins, share.meets, low-lt-high (left_of node))) (omega (arith, share.ends))
-
   -- a node with many rows that isn't kept
-  pub halved : (low high count : ℕ) (left right : NodeValue) (rows : RowsValue) → sig_of node s entries ≡ None → low ≡ low_of node → high ≡ high_of node → rows ≡ record { extent = log.extent; rows = rows_at log.edits v }
-      → count ≡ length (rows_in low high rows.rows) → 8 < count → 0 < node.height → left ≡ left_of node → right ≡ right_of node
-      → visit_of log.edits v (held entries) node ≡ Split node (visit_of log.edits v (held entries) left) (visit_of log.edits v (held entries) right)
-  halved low high count left right rows none begins ends are counted lots some left_is right_is =
-      let counts : count ≡ count_at log.edits v node = counted ∙ ap length (rows-in_node log v low high node rows begins ends are) in
-      visit-halved log.edits v (held entries) node (not_kept-at none) (omega (arith, counts, lots)) some
-      ∙ ap (λ (n : NodeValue). Split node (visit_of log.edits v (held entries) n) (visit_of log.edits v (held entries) (right_of node))) (sym left_is)
-      ∙ ap (λ (n : NodeValue). Split node (visit_of log.edits v (held entries) left) (visit_of log.edits v (held entries) n)) (sym right_is)
+  pub halved : sig_of node s entries ≡ None → 8 < count_at log.edits v node → 0 < node.height
+      → visit_of log.edits v (held entries) node ≡ Split node (visit_of log.edits v (held entries) (left_of node)) (visit_of log.edits v (held entries) (right_of node))
+  halved none lots some = visit-halved log.edits v (held entries) node (not_kept-at none) lots some

@@ -13,9 +13,8 @@ use node_cache::NodeCache;
 use solve::Solved;
 use std::alloc::Global;
 use std::marker::Model;
-use std::sync::ledger::Ledger;
 use versions::{Accepted, Edit, EditReply, Stream};
-use words::{Capacity, Memory, Shape, Steps};
+use words::{Capacity, Ledger, Memory, Shape, Steps};
 
 /// The edits, looks and settles of 1 to 16 sessions, one after another, over one stream and one cache of nodes. Seen as the list of the
 /// steps that were taken, from which all that it keeps can be told.

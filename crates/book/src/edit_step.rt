@@ -32,7 +32,7 @@ pub fn edit(
     ensures err { OnErr result ((stream.new ≡ stream.old) × (cache.new ≡ cache.old) × (history.new.items ≡ history.old.items)) }
 {
     history.reserve(1)?;
-    let copy = e.copy(alloc)?;
+    let copy = e.copy()?;
     let reply = stream.edit(alloc, e)?;
     if let EditReply::Done(_) = reply {
         drop_past(stream.log(), cache);

@@ -2,14 +2,14 @@
 ghost use Rattle.std.specs.Prelude.{◌≡◌, ◌+◌, ◌-◌, ◌<◌, ◌≤◌, ◌&&◌, ◌++◌, [], ◌∷◌, List, length, filter, not, true, nat_le, IfSome, IfNone};
 ghost use Rattle.dyadic.specs.Nodes.{low_of, high_of};
 ghost use Rattle.versions.specs.declared.log.Accepted.{Accepted};
-ghost use Rattle.versions.specs.Versions.{LogValue, touched, since as since_version};
+ghost use Rattle.versions.specs.Versions.{LogValue, touched};
 ghost use Rattle.book.specs.Play.{is_past};
 ghost use Rattle.book.specs.Books.{AreKept};
 ghost use Rattle.book.specs.Expiry.{is_ended, IsTouchedHalf};
 
 use dyadic::Node;
 use node_cache::NodeCache;
-use versions::EditLog;
+use versions::{EditLog, LogNode};
 
 /// A pair goes so many edits after the first one that touches its node.
 pub(crate) const SPAN: u64 = 64;
@@ -26,22 +26,22 @@ pub fn drop_past(log: &EditLog, cache: &mut NodeCache)
     }
     let touch = version - SPAN;
     let line = Node::new(0, -16).unwrap();
-    drop_ended(log, cache, line, touch, touch - 1);
+    let here = log.node_at(line, touch - 1);
+    drop_ended(log, cache, &here, touch);
 }
 
-/// Takes out the entries that the edit `touch` ended, of this node and those inside it. The edit touches the node, and after the version
-/// `upto` no edit before it does.
-fn drop_ended(log: &EditLog, cache: &mut NodeCache, node: Node, touch: u64, upto: u64)
+/// Takes out the entries that the edit `touch` ended, of this node and those inside it, at the version before that edit, which touches the node.
+fn drop_ended(log: &EditLog, cache: &mut NodeCache, here: &LogNode<'_>, touch: u64)
+    requires some { 1 ≤ touch }
     requires within { touch ≤ length log.now.edits }
-    requires touches { touched (low_of node) (high_of node) log.now.edits touch ≡ true }
-    requires upto { upto < touch }
-    requires untouched { since_version (low_of node) (high_of node) log.now.edits (touch - 1) ≡ since_version (low_of node) (high_of node) log.now.edits upto }
-    ensures { cache.new ≡ record { capacity = cache.old.capacity; entries = filter (λ e. not (nat_le e.node.height node.height && is_ended log.now.edits touch e)) cache.old.entries } }
+    requires here { (here.now.log ≡ log.now) × (here.now.version ≡ touch - 1) }
+    requires touches { touched (low_of here.now.node) (high_of here.now.node) log.now.edits touch ≡ true }
+    ensures { cache.new ≡ record { capacity = cache.old.capacity; entries = filter (λ e. not (nat_le e.node.height here.now.node.height && is_ended log.now.edits touch e)) cache.old.entries } }
 {
-    let since = log.since(node, upto);
-    cache.drop_pair(node, since);
+    let node = here.node();
+    cache.drop_pair(node, here.since());
     if let Some(half) = half_with(log, node, touch) {
-        drop_ended(log, cache, half, touch, since);
+        drop_ended(log, cache, &here.within(half), touch);
     }
 }
 

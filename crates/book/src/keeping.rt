@@ -22,6 +22,9 @@ fn is_past(log: &EditLog, version: u64, node: Node) -> bool
     ensures log { IsLog log.now }
 {
     let ended = log.len().saturating_sub(SPAN);
+    if version >= ended {
+        return false;
+    }
     log.since(node, ended) > version
 }
 

@@ -21,9 +21,8 @@ use dyadic::Node;
 use node_cache::NodeCache;
 use solve::{Plan, Work};
 use std::alloc::Global;
-use std::sync::ledger::Ledger;
 use versions::Stream;
-use words::{Memory, Shape, Steps};
+use words::{Ledger, Memory, Shape, Steps};
 
 /// What a refused look gives.
 fn refused(reply: LookReply) -> Look

@@ -13,9 +13,8 @@ use decompose::round;
 use node_cache::NodeCache;
 use solve::Plan;
 use std::alloc::Global;
-use std::sync::ledger::Ledger;
 use versions::{EditLog, RowsView, Stream};
-use words::{Memory, Steps};
+use words::{Ledger, Memory, Steps};
 
 /// The plans of a query, or why it has no answer.
 #[derive(Drop)]
@@ -66,7 +65,7 @@ fn planned_at<L: Ledger>(
     if let Some(reply) = refusal(&q.allowed, rows.weight_in(from, to)) {
         return Ok(Planned::Refused(reply));
     }
-    let plans = plans_of(alloc, rows, log, cache, version, from, to, steps)?;
+    let plans = plans_of(alloc, log, cache, version, from, to, steps)?;
     Ok(Planned::Plans(plans))
 }
 

@@ -11,13 +11,12 @@ use hall_set::HallSet;
 use increments::Name;
 use solve::{Solved, Through, solve};
 use std::alloc::Global;
-use std::marker::{Brand, Model};
+use std::marker::Model;
 use std::process::Abort;
-use std::sync::ledger::{Blank, Ledger};
 use std::test::Fail;
 use tensor_product::Sig;
 use versions::Edit;
-use words::{Bound, Capacity, Entries, Move, Shape, Steps};
+use words::{Bound, Capacity, Entries, Free, Move, Shape, Steps};
 
 const SECOND: u64 = 65536;
 
@@ -34,7 +33,7 @@ fn capacity(nodes: u32) -> Result<Capacity, Fail> {
 }
 
 fn name(alloc: Global, text: &str) -> Result<Name, Fail> {
-    Ok(Name::of(String::from_str(alloc, text)?))
+    Ok(Name::of(String::from_str(alloc, text)?)?)
 }
 
 fn single(alloc: Global, shape: Shape, entries: &[i64]) -> Result<Move, Fail>
@@ -42,7 +41,7 @@ fn single(alloc: Global, shape: Shape, entries: &[i64]) -> Result<Move, Fail>
 {
     let mut parts = Vec::new(alloc);
     parts.push(Entries::of(Vec::from_slice(alloc, entries)?))?;
-    Ok(Move::of(shape, parts).ok_or("no such move")?)
+    Ok(Move::of(alloc, shape, parts)?.ok_or("no such move")?)
 }
 
 /// The signature of a shape over these ticks.
@@ -161,25 +160,15 @@ fn found(version: u64, hits: u64, misses: u64, exps: u64) -> LookReply {
 }
 
 /// A look by session 1, which is solved, and settled after so many corrections by session 2 where it misses nodes.
-fn ask_with<L: Ledger>(
-    alloc: Global,
-    book: &mut Book,
-    shape: Shape,
-    q: Query,
-    times: u64,
-    blank: Blank,
-) -> Result<Answer, Fail>
+fn ask(alloc: Global, book: &mut Book, shape: Shape, q: Query, times: u64) -> Result<Answer, Fail>
     requires sessions { book.old.sessions ≡ 2 }
     requires extent { book.old.extent ≡ shape }
     requires query { IsQuery q }
     requires allowed { AllowsSignatures shape q.allowed }
-    requires name { blank.name ≡ L.name }
-    requires parts { blank.parts ≡ L.parts }
-    requires some { 0 < L.parts }
     ensures sessions { book.new.sessions ≡ book.old.sessions }
     ensures extent { book.new.extent ≡ book.old.extent }
 {
-    let mut steps: Steps<L> = Steps::new(blank);
+    let mut steps = Steps::new(Free);
     ready(book, 1)?;
     free(book, 1)?;
     let look = book.look(alloc, 1, q, &mut steps)?;
@@ -213,17 +202,6 @@ fn settle(book: &mut Book, solved: &Solved) -> Result<u64, Fail>
 {
     ready(book, 1)?;
     Ok(book.settle(1, solved)?)
-}
-
-fn ask(alloc: Global, book: &mut Book, shape: Shape, q: Query, times: u64) -> Result<Answer, Fail>
-    requires sessions { book.old.sessions ≡ 2 }
-    requires extent { book.old.extent ≡ shape }
-    requires query { IsQuery q }
-    requires allowed { AllowsSignatures shape q.allowed }
-    ensures sessions { book.new.sessions ≡ book.old.sessions }
-    ensures extent { book.new.extent ≡ book.old.extent }
-{
-    ask_with::<Brand>(alloc, book, shape, q, times, Blank::new(1))
 }
 
 /// A book of two sessions: session 1 looks, and session 2 edits.

@@ -1,79 +1,67 @@
 //! The walk of nodes at a version, over the nodes that are kept.
 ghost use Rattle.std.specs.Prelude.{◌≡◌, ◌+◌, ◌≤◌, ◌^◌, All, length, map, sum_by, IfOk, OnOk};
-ghost use Rattle.dyadic.specs.Nodes.{IsNode, low_of, high_of};
+ghost use Rattle.dyadic.specs.Nodes.{low_of, high_of};
 ghost use Rattle.definitions.specs.Rows.{rows_in};
 ghost use Rattle.solve.specs.declared.plan.Plan.{Leaf as LeafPlan};
-ghost use Rattle.versions.specs.Versions.{rows_at, since as since_version};
+ghost use Rattle.versions.specs.Versions.{rows_at};
 ghost use Rattle.book.specs.Walks.{visit_of, visits_of, walk};
 ghost use Rattle.book.specs.Plans.{IsPlanOf, ArePlansOf};
 ghost use Rattle.book.specs.Books.{AreKept, held};
 
 use decompose::pieces;
-use dyadic::Node;
 use node_cache::NodeCache;
 use solve::Plan;
 use std::alloc::Global;
 use std::sync::Arc;
-use std::sync::ledger::Ledger;
-use versions::{EditLog, RowsView};
-use words::{Memory, Steps};
+use versions::{EditLog, LogNode};
+use words::{Ledger, Memory, Steps};
 
 /// The most rows of a leaf: a node with at most so many isn't halved.
 const LEAF_ROWS: u64 = 8;
 
-/// The leaf of these rows in the node.
-fn leaf(alloc: Global, rows: &RowsView<'_>, node: Node) -> Result<Plan, Memory>
-    ensures { IfOk result (λ plan. plan ≡ LeafPlan node (rows_in (low_of node) (high_of node) rows.now)) }
+/// The leaf of the rows in a node.
+fn leaf(alloc: Global, here: &LogNode<'_>) -> Result<Plan, Memory>
+    ensures { IfOk result (λ plan. plan ≡ LeafPlan here.now.node (rows_in (low_of here.now.node) (high_of here.now.node) (rows_at here.now.log.edits here.now.version))) }
 {
-    Ok(Plan::Leaf(node, rows.copy_in(alloc, node.low(), node.high())?))
+    Ok(Plan::Leaf(here.node(), here.copy(alloc)?))
 }
 
-/// The plan for a node at a version. After the version `upto` none up to the looked one touches the node. Takes one unit for each visited
-/// node, and after want of memory at most so many.
+/// The plan for a node at a version. Takes one unit for each visited node, and after want of memory at most so many.
 fn visit<L: Ledger>(
     alloc: Global,
-    rows: &RowsView<'_>,
-    log: &EditLog,
+    here: &LogNode<'_>,
     cache: &NodeCache,
-    version: u64,
-    upto: u64,
-    node: Node,
     steps: &mut Steps<L>,
 ) -> Result<Plan, Memory>
-    requires version { version ≤ length log.now.edits }
-    requires rows { rows.now ≡ rows_at log.now.edits version }
-    requires kept { AreKept log.now cache.now.entries }
-    requires upto { upto ≤ version }
-    requires untouched { since_version (low_of node) (high_of node) log.now.edits version ≡ since_version (low_of node) (high_of node) log.now.edits upto }
-    ensures plan { IfOk result (IsPlanOf log.now.extent log.now.edits version (visit_of log.now.edits version (held cache.now.entries) node)) }
-    ensures ticks { OnOk result (steps.new ≡ steps.old + visits_of (visit_of log.now.edits version (held cache.now.entries) node)) }
-    ensures at_most { (steps.old ≤ steps.new) × (steps.new ≤ steps.old + visits_of (visit_of log.now.edits version (held cache.now.entries) node)) }
+    requires { AreKept here.now.log cache.now.entries }
+    ensures plan { IfOk result (IsPlanOf here.now.log.extent here.now.log.edits here.now.version (visit_of here.now.log.edits here.now.version (held cache.now.entries) here.now.node)) }
+    ensures ticks { OnOk result (steps.new ≡ steps.old + visits_of (visit_of here.now.log.edits here.now.version (held cache.now.entries) here.now.node)) }
+    ensures at_most { (steps.old ≤ steps.new) × (steps.new ≤ steps.old + visits_of (visit_of here.now.log.edits here.now.version (held cache.now.entries) here.now.node)) }
 {
     steps.tick();
-    let since = log.since(node, upto);
-    if let Some(sig) = cache.peek(node, since) {
-        prove!(version <= log.len());
+    let node = here.node();
+    if let Some(sig) = cache.peek(node, here.since()) {
         return Ok(Plan::Hit(node, Arc::try_clone(sig)?));
     }
-    let count = rows.count_in(node.low(), node.high());
+    prove!(node.high() <= 1 << 32);
+    let count = here.count();
     if count == 0 {
         return Ok(Plan::Unit(node));
     }
     if count <= LEAF_ROWS {
-        return leaf(alloc, rows, node);
+        return leaf(alloc, here);
     }
-    let (Some(left), Some(right)) = (node.left(), node.right()) else {
-        return leaf(alloc, rows, node);
+    let (Some(left), Some(right)) = (here.left(), here.right()) else {
+        return leaf(alloc, here);
     };
-    let first = visit(alloc, rows, log, cache, version, since, left, steps)?;
-    let second = visit(alloc, rows, log, cache, version, since, right, steps)?;
+    let first = visit(alloc, &left, cache, steps)?;
+    let second = visit(alloc, &right, cache, steps)?;
     Ok(Plan::Split(node, Box::new(alloc, first)?, Box::new(alloc, second)?))
 }
 
 /// The plans for the pieces of `from .. to` at a version. Takes one unit for each visited node, and after want of memory at most so many.
 pub fn plans_of<L: Ledger>(
     alloc: Global,
-    rows: &RowsView<'_>,
     log: &EditLog,
     cache: &NodeCache,
     version: u64,
@@ -82,7 +70,6 @@ pub fn plans_of<L: Ledger>(
     steps: &mut Steps<L>,
 ) -> Result<Vec<Plan>, Memory>
     requires version { version ≤ length log.now.edits }
-    requires rows { rows.now ≡ rows_at log.now.edits version }
     requires kept { AreKept log.now cache.now.entries }
     requires forward { from ≤ to }
     requires end { to ≤ 2 ^ 32 }
@@ -93,7 +80,8 @@ pub fn plans_of<L: Ledger>(
     let nodes = pieces(alloc, from, to)?;
     let mut plans = Vec::new(alloc);
     for node in nodes.iter() {
-        plans.push(visit(alloc, rows, log, cache, version, version, *node, steps)?)?;
+        let here = log.node_at(*node, version);
+        plans.push(visit(alloc, &here, cache, steps)?)?;
     }
     Ok(plans)
 }

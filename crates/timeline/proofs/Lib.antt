@@ -11,6 +11,8 @@ pub mod Grafts
 pub mod Readings
 pub mod Tips
 pub mod Views
+pub mod Places
 pub mod Timelines
 pub mod Ticks
+pub mod NodeViews
 pub mod Edits

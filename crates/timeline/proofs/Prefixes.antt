@@ -8,7 +8,8 @@ use Rattle.std.proofs.Common.{pow_pos}
 pub prefix-suc : (k g : ℕ) → k / 2 ^ suc g ≡ k / 2 ^ g / 2
 prefix-suc k g = ap (λ (n : ℕ). k / n) (pow-suc 2 g) ∙ sym (div-div-eq-div-mul k (2 ^ g) 2)
 
-prefix-add : (k g d : ℕ) → k / 2 ^ (g + d) ≡ k / 2 ^ g / 2 ^ d
+-- a key without its last g + d digits is what is left of it without the last g ones, without the last d of that
+pub prefix-add : (k g d : ℕ) → k / 2 ^ (g + d) ≡ k / 2 ^ g / 2 ^ d
 prefix-add k g d = ap (λ (n : ℕ). k / n) (pow-add 2 g d) ∙ sym (div-div-eq-div-mul k (2 ^ g) (2 ^ d))
 
 -- keys that agree do so without more digits

@@ -20,7 +20,8 @@ use Rattle.timeline.proofs.Timelines.{version-rows}
 row-in : (a b tick birth : ℕ) → birth < 2 ^ 31 → lies_in (a * 2 ^ 31 + 0) (b * 2 ^ 31 + 0) (tick * 2 ^ 31 + birth) ≡ lies_in a b tick
 row-in a b tick birth h = grind (arith, nat_tests)
 
-keyed-ticks : (a b : ℕ) (rows : List RowValue) → All IsFit rows → keyed_in (key_at a 0) (key_at b 0) rows ≡ rows_in a b rows
+-- the rows with keys from those of tick a on and below those of tick b are those with ticks in [a, b)
+pub keyed-ticks : (a b : ℕ) (rows : List RowValue) → All IsFit rows → keyed_in (key_at a 0) (key_at b 0) rows ≡ rows_in a b rows
 keyed-ticks a b [] fit = refl
 keyed-ticks a b (r ∷ rows) fit =
     let here : IsFit r = All-head IsFit r rows fit in
@@ -55,7 +56,8 @@ module _ (store : Store) (roots : List ℕ) (is : IsTimeline store roots) (a b v
     pub root-is : IsRoot store edit (get_or roots edit 0)
     root-is = is.each edit root-there
 
-    rows-here : rows_at (past_in store roots) v ≡ rows_below store (get_or roots edit 0)
+    -- the version has the rows of its root
+    pub rows-here : rows_at (past_in store roots) v ≡ rows_below store (get_or roots edit 0)
     rows-here = ap (rows_at (past_in store roots)) version-is ∙ version-rows store roots edit root-there
 
     -- it has fewer than 2 ^ 32 rows

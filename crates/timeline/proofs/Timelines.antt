@@ -1,10 +1,8 @@
 -- One more version.
 use Rattle.std.proofs.Common.{◌≡◌, ◌∙◌, ℕ, zero, suc, ◌+◌, ◌/◌, ◌<◌, ◌≤◌, ◌^◌, inl, inr, List, [], ◌∷◌, ◌++◌, length, get_or, refl, sym, ap, subst, arith, length-append, cond}
 use Rattle.std.specs.Prelude.{map}
-use Rattle.std.specs.List.{All}
 use Rattle.std.proofs.lemmas.Bool.{cases_lt}
 use Rattle.std.proofs.lemmas.List.{map-append, length-map, nil_from_length, get_or_append_left, get_or_at}
-use Rattle.std.proofs.lemmas.List.Elements.{All-push}
 use Rattle.definitions.specs.Rows.{RowValue, lies_in}
 use Rattle.timeline.specs.declared.span.Span.{Span}
 use Rattle.timeline.specs.Keys.{tick_of, with_at}
@@ -12,7 +10,7 @@ use Rattle.timeline.specs.Moments.{since}
 use Rattle.timeline.specs.Pasts.{current_rows, with_version}
 use Rattle.timeline.specs.Tries.{Label, Trie, rows_of, last_in}
 use Rattle.timeline.specs.Stores.{Store, no_span, no_row, span_at, edit_key, trie}
-use Rattle.timeline.specs.Puts.{Grows, GainsRows, IsTip, IsPut, IsFit, AreFit}
+use Rattle.timeline.specs.Puts.{Grows, GainsRows, IsTip, IsPut}
 use Rattle.timeline.specs.Timelines.{IsRoot, AreRoots, IsTimeline, rows_below, past_in, last_rows, IsNext}
 use Rattle.timeline.proofs.Filters.{with_at-nil, with_at-length}
 use Rattle.timeline.proofs.Touches.{since-kept, since-none, since-next}

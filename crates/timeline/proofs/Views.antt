@@ -102,12 +102,13 @@ module _ (store : Store) (i a b : ℕ) (s : Span) (has : HasHalves store i) (rea
   pub right-lower : (span_at store s.right).height ≤ s.height - 1
   right-lower = subst (λ (w : Span). (span_at store w.right).height ≤ s.height - 1) (sym read) (omega (arith, has.second_low, height))
 
-  tree : trie store i ≡ Fork (label_at store i) (trie store s.left) (trie store s.right)
-  tree = has.tree ∙ sym (ap (λ (w : Span). Fork (label_at store i) (trie store w.left) (trie store w.right)) read)
+  -- the tree is the fork over those of the halves
+  pub fork-is : trie store i ≡ Fork (label_at store i) (trie store s.left) (trie store s.right)
+  fork-is = has.tree ∙ sym (ap (λ (w : Span). Fork (label_at store i) (trie store w.left) (trie store w.right)) read)
 
   -- the rows are those of the left half, then those of the right one
   pub rows-are : rows_of (trie store i) ≡ rows_of (trie store s.left) ++ rows_of (trie store s.right)
-  rows-are = ap rows_of tree
+  rows-are = ap rows_of fork-is
 
   -- so are the rows with keys in [a, b)
   pub keyed-are : keyed_in a b (rows_of (trie store i)) ≡ keyed_in a b (rows_of (trie store s.left)) ++ keyed_in a b (rows_of (trie store s.right))
@@ -153,7 +154,7 @@ module _ (store : Store) (i a b : ℕ) (s : Span) (has : HasHalves store i) (rea
             omega (arith, first.weighed, second.weighed, ap (λ (rs : List RowValue). weight_of (moves_of rs)) keyed-are, weight-append (keyed_in a b (rows_of (trie store s.left))) (keyed_in a b (rows_of (trie store s.right))));
         touched =
             ap (λ (n : ℕ). max n y.since) first.touched ∙ ap (λ (n : ℕ). max (last_in a b (trie store s.left)) n) second.touched
-            ∙ sym (ap (λ (t : Trie). last_in a b t) tree);
+            ∙ sym (ap (λ (t : Trie). last_in a b t) fork-is);
       }
 
 -- ---- lists of rows

@@ -6,3 +6,4 @@ pub mod Puts
 pub mod Views
 pub mod Pasts
 pub mod Timelines
+pub mod Places

@@ -15,8 +15,8 @@ fn row(alloc: Global, tick: u64, birth: u64, entry: i64) -> Result<Row, Fail>
     let shape = Shape::new(1, 1)?;
     let mut parts = Vec::new(alloc);
     parts.push(Entries::of(Vec::from_slice(alloc, &[entry])?))?;
-    let x = Move::of(shape, parts).ok_or("refused")?;
-    let name = Name::of(String::from_str(alloc, "a")?);
+    let x = Move::of(alloc, shape, parts)?.ok_or("refused")?;
+    let name = Name::of(String::from_str(alloc, "a")?)?;
     Ok(Row::new(name, tick, birth, x))
 }
 
@@ -77,5 +77,31 @@ fn rows_of_one_tick(rt: HostRuntime) -> Result<(), Fail> {
         births.push(row.birth())?;
     }
     assert_eq!(rt; births.as_slice(), [1, 2].as_slice());
+    Ok(())
+}
+
+#[test]
+fn halves_of_a_node(rt: HostRuntime) -> Result<(), Fail> {
+    let alloc = rt.alloc();
+    let mut line = Timeline::new(alloc);
+    line.put(row(alloc, 131071, 1, 4)?)?;
+    line.put(row(alloc, 65535, 2, 1)?)?;
+    line.put(row(alloc, 70000, 3, 2)?)?;
+    line.remove(131071, 1)?;
+    let node = line.node_view(Node::new(0, -1).ok_or("none")?, 4);
+    assert_eq!(rt; (node.since(), node.count()), (4, 2));
+    let first = node.left().ok_or("none")?;
+    let second = node.right().ok_or("none")?;
+    assert_eq!(rt; (first.since(), first.count()), (2, 1));
+    assert_eq!(rt; (second.since(), second.count()), (4, 1));
+    let later = second.right().ok_or("none")?;
+    assert_eq!(rt; later.node(), Node::new(3, 1).ok_or("none")?);
+    assert_eq!(rt; (later.since(), later.count()), (4, 0));
+    let early = first.left().ok_or("none")?;
+    assert_eq!(rt; (early.since(), early.count()), (0, 0));
+    assert_eq!(rt; second.copy(alloc)?.list().len(), 1);
+    let tick = line.node_view(Node::new(65535, 16).ok_or("none")?, 2);
+    assert_eq!(rt; (tick.since(), tick.count()), (2, 1));
+    assert!(rt; tick.left().is_none());
     Ok(())
 }

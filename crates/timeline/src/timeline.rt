@@ -10,6 +10,7 @@ ghost use Rattle.timeline.specs.Tries.{rows_of};
 ghost use Rattle.timeline.specs.Puts.{Grows, GainsSpans, IsTip, AreFit, listed};
 ghost use Rattle.timeline.specs.Timelines.{IsTimeline, AreRoots, IsNext, past_of};
 
+use crate::node_view::NodeView;
 use crate::tree::Tree;
 use crate::view::{Totals, copy_under, nothing, totals_under};
 use dyadic::Node;
@@ -38,7 +39,7 @@ impl Model for Timeline {
 }
 
 /// The key of a tick and a birth.
-fn key_at(tick: u64, birth: u64) -> u64
+pub(crate) fn key_at(tick: u64, birth: u64) -> u64
     requires tick { tick ≤ 2 ^ 32 }
     requires birth { birth < 2 ^ 31 }
     ensures { result ≡ key_with tick birth }
@@ -149,6 +150,14 @@ impl Timeline {
         totals_under(tree, 63, root, key_at(from, 0), key_at(to, 0))
     }
 
+    /// The rows of version v in the node, by reference. Takes no memory.
+    pub fn node_view(&self, node: Node, v: u64) -> NodeView<'_>
+        requires { v ≤ length self.now.ticks }
+        ensures { result ≡ record { past = self.now; version = v; node = node } }
+    {
+        NodeView::of(&self.tree, &self.roots, node, v)
+    }
+
     /// The last version from 1 to v that touched the node, or 0 where there is none.
     pub fn since(&self, node: Node, v: u64) -> u64
         requires { v ≤ length self.now.ticks }
@@ -220,7 +229,7 @@ impl Timeline {
         }
         let root = roots[v as usize - 1];
         let (low, high) = (key_at(from, 0), key_at(to, 0));
-        copy_under(alloc, tree, 63, root, low, high, &mut rows)?;
+        copy_under(tree, 63, root, low, high, &mut rows)?;
         Ok(RowList::of(rows))
     }
 }

@@ -37,7 +37,7 @@ pub fn prefix(key: u64, height: u32) -> u64
 }
 
 /// Whether the key is in the lower half of a node: the digit before the last ones, this many, is 0.
-fn is_lower(key: u64, half: u32) -> bool
+pub fn is_lower(key: u64, half: u32) -> bool
     requires { half ≤ 62 }
     ensures lower { OnTrue result (key / 2 ^ half ≡ 2 * (key / 2 ^ (half + 1))) }
     ensures higher { OnFalse result (key / 2 ^ half ≡ 2 * (key / 2 ^ (half + 1)) + 1) }

@@ -8,7 +8,6 @@ ghost use Rattle.timeline.specs.Views.{AreTotals, IsOverlap, no_totals, summed};
 
 use crate::tree::{Tree, prefix};
 use increments::Row;
-use std::alloc::Global;
 use words::Memory;
 
 /// The number and the weight of the rows in an interval, and the last version that touched it.
@@ -97,13 +96,7 @@ pub fn totals_under(tree: &Tree, limit: u32, at: u32, from: u64, to: u64) -> Tot
 }
 
 /// Equal rows to those under a tree node, after the rows that are in the list already.
-fn copy_all(
-    alloc: Global,
-    tree: &Tree,
-    limit: u32,
-    at: u32,
-    rows: &mut Vec<Row>,
-) -> Result<(), Memory>
+pub fn copy_all(tree: &Tree, limit: u32, at: u32, rows: &mut Vec<Row>) -> Result<(), Memory>
     requires stands { Stands (store_of tree.now) at }
     requires low { (span_at (store_of tree.now) at).height ≤ limit }
     ensures { OnOk result (rows.new.items ≡ rows.old.items ++ rows_of (trie (store_of tree.now) at)) }
@@ -113,16 +106,15 @@ fn copy_all(
         return Ok(());
     }
     if span.height == 0 {
-        rows.push(tree.rows[span.right as usize].copy(alloc)?)?;
+        rows.push(tree.rows[span.right as usize].copy()?)?;
         return Ok(());
     }
-    copy_all(alloc, tree, span.height - 1, span.left, rows)?;
-    copy_all(alloc, tree, span.height - 1, span.right, rows)
+    copy_all(tree, span.height - 1, span.left, rows)?;
+    copy_all(tree, span.height - 1, span.right, rows)
 }
 
 /// Equal rows to those in `from .. to` under a tree node, after the rows that are in the list already.
 pub fn copy_under(
-    alloc: Global,
     tree: &Tree,
     limit: u32,
     at: u32,
@@ -138,11 +130,11 @@ pub fn copy_under(
     let span = tree.spans[at as usize];
     match overlap_with(tree.keys[span.edit as usize], span.height, from, to) {
         Overlap::Outside => Ok(()),
-        Overlap::Inside => copy_all(alloc, tree, limit, at, rows),
+        Overlap::Inside => copy_all(tree, limit, at, rows),
         Overlap::Across => {
             let half = span.height - 1;
-            copy_under(alloc, tree, half, span.left, from, to, rows)?;
-            copy_under(alloc, tree, half, span.right, from, to, rows)
+            copy_under(tree, half, span.left, from, to, rows)?;
+            copy_under(tree, half, span.right, from, to, rows)
         }
     }
 }

@@ -1,3 +1,4 @@
 pub mod Versions
 pub mod Streams
 pub mod Pasts
+pub mod LogNodes

@@ -1,7 +1,6 @@
 ghost use Rattle.std.specs.Prelude.{◌≡◌, IfOk};
 
 use increments::Name;
-use std::alloc::Global;
 use words::{Memory, Move};
 
 /// A change of the rows.
@@ -16,23 +15,21 @@ pub enum Edit {
 }
 
 impl Edit {
-    /// An equal edit.
-    pub fn copy(&self, alloc: Global) -> Result<Edit, Memory>
+    /// An equal edit, which shares the name and the move of this one.
+    pub fn copy(&self) -> Result<Edit, Memory>
         ensures { IfOk result (λ edit. edit ≡ self.now) }
     {
         Ok(match self {
             Edit::Append { name, tick, x } => Edit::Append {
-                name: name.copy(alloc)?,
+                name: name.copy()?,
                 tick: *tick,
-                x: x.copy(alloc)?,
+                x: x.copy()?,
             },
             Edit::Correct { name, x } => Edit::Correct {
-                name: name.copy(alloc)?,
-                x: x.copy(alloc)?,
+                name: name.copy()?,
+                x: x.copy()?,
             },
-            Edit::Remove { name } => Edit::Remove {
-                name: name.copy(alloc)?,
-            },
+            Edit::Remove { name } => Edit::Remove { name: name.copy()? },
         })
     }
 }

@@ -6,6 +6,7 @@
 pub mod edit;
 pub mod laws;
 pub mod log;
+pub mod log_node;
 mod record;
 mod replay;
 pub mod stream;
@@ -14,5 +15,6 @@ mod tests;
 
 pub use edit::{Edit, EditReply};
 pub use log::{Accepted, EditLog};
+pub use log_node::LogNode;
 pub use stream::Stream;
 pub use timeline::RowsView;

@@ -6,6 +6,7 @@ ghost use Rattle.versions.specs.Versions.{IsLog, IsEdit, IsAccepted, IsFirstTouc
 ghost use Rattle.versions.specs.Streams.{rows_of};
 
 use crate::edit::Edit;
+use crate::log_node::LogNode;
 use crate::record::take_edit;
 use crate::replay::replay;
 use dyadic::Node;
@@ -141,6 +142,14 @@ impl EditLog {
     {
         let near = v - v % 1024;
         (near, self.view_at(near))
+    }
+
+    /// The rows of version v in the node, by reference. Takes no memory.
+    pub fn node_at(&self, node: Node, v: u64) -> LogNode<'_>
+        requires { v ≤ length self.now.edits }
+        ensures { result ≡ record { log = self.now; version = v; node = node } }
+    {
+        LogNode::of(self, self.line.node_view(node, v))
     }
 
     /// The last version from 1 to v whose edit has its tick in the node, or 0 where there is none.

@@ -31,7 +31,6 @@ fn change(line: &mut Timeline, tick: u64, birth: u64, row: Option<Row>) -> Resul
 
 /// The next version in the log and in the rows of each version.
 fn keep(
-    alloc: Global,
     edits: &mut Vec<Accepted>,
     line: &mut Timeline,
     e: &Edit,
@@ -52,7 +51,7 @@ fn keep(
 {
     let count = edits.len();
     edits.push(Accepted {
-        edit: e.copy(alloc)?,
+        edit: e.copy()?,
         tick,
     })?;
     match change(line, tick, birth, row) {
@@ -86,13 +85,13 @@ fn append(
     ensures err { OnErr result (edits.new.items ≡ edits.old.items) }
 {
     let version = edits.len() as u64 + 1;
-    let row = Row::new(name.copy(alloc)?, tick, version, x.copy(alloc)?);
+    let row = Row::new(name.copy()?, tick, version, x.copy()?);
     match rows.append(alloc, name, tick, x, version) {
         Ok(()) => {}
         Err(RowFault::NameTaken) => unreachable!(),
         Err(RowFault::Memory) => return Err(Memory),
     }
-    match keep(alloc, edits, line, e, tick, version, Some(row)) {
+    match keep(edits, line, e, tick, version, Some(row)) {
         Ok(()) => Ok(()),
         Err(memory) => {
             rows.remove(name);
@@ -103,7 +102,6 @@ fn append(
 
 /// Another move for a row. The current rows take it last, since that takes no memory.
 fn correct(
-    alloc: Global,
     edits: &mut Vec<Accepted>,
     line: &mut Timeline,
     rows: &mut Rows,
@@ -125,16 +123,15 @@ fn correct(
     let Some(place) = rows.place_of(name) else {
         unreachable!()
     };
-    let row = Row::new(name.copy(alloc)?, tick, place.1, x.copy(alloc)?);
-    let x = x.copy(alloc)?;
-    keep(alloc, edits, line, e, tick, place.1, Some(row))?;
+    let row = Row::new(name.copy()?, tick, place.1, x.copy()?);
+    let x = x.copy()?;
+    keep(edits, line, e, tick, place.1, Some(row))?;
     rows.correct(name, x);
     Ok(())
 }
 
 /// A row goes. The current rows lose it last, since that takes no memory.
 fn remove(
-    alloc: Global,
     edits: &mut Vec<Accepted>,
     line: &mut Timeline,
     rows: &mut Rows,
@@ -155,7 +152,7 @@ fn remove(
     let Some(place) = rows.place_of(name) else {
         unreachable!()
     };
-    keep(alloc, edits, line, e, tick, place.1, None)?;
+    keep(edits, line, e, tick, place.1, None)?;
     rows.remove(name);
     Ok(())
 }
@@ -180,7 +177,7 @@ pub fn take_edit(
 {
     match e {
         Edit::Append { name, x, .. } => append(alloc, edits, line, rows, e, name, tick, x),
-        Edit::Correct { name, x } => correct(alloc, edits, line, rows, e, name, tick, x),
-        Edit::Remove { name } => remove(alloc, edits, line, rows, e, name, tick),
+        Edit::Correct { name, x } => correct(edits, line, rows, e, name, tick, x),
+        Edit::Remove { name } => remove(edits, line, rows, e, name, tick),
     }
 }

@@ -23,7 +23,7 @@ fn take_next(alloc: Global, rows: &mut Rows, e: &Edit, version: u64) -> Result<(
             Err(RowFault::Memory) => return Err(Memory),
         },
         Edit::Correct { name, x } => {
-            rows.correct(name, x.copy(alloc)?);
+            rows.correct(name, x.copy()?);
         }
         Edit::Remove { name } => {
             rows.remove(name);

@@ -4,12 +4,12 @@ ghost use Rattle.definitions.specs.Moves.{IsMove};
 use crate::{Edit, EditLog, EditReply, Stream};
 use dyadic::Node;
 use increments::{Name, Rows};
-use std::alloc::{AllocError, Global};
+use std::alloc::Global;
 use std::test::Fail;
-use words::{Entries, Move, Shape};
+use words::{Entries, Memory, Move, Shape};
 
-fn name(alloc: Global, text: &str) -> Result<Name, AllocError> {
-    Ok(Name::of(String::from_str(alloc, text)?))
+fn name(alloc: Global, text: &str) -> Result<Name, Memory> {
+    Name::of(String::from_str(alloc, text)?)
 }
 
 /// The move of one entry, of the shape (1, 1).
@@ -18,7 +18,7 @@ fn single(alloc: Global, shape: Shape, entry: i64) -> Result<Move, Fail>
 {
     let mut parts = Vec::new(alloc);
     parts.push(Entries::of(Vec::from_slice(alloc, &[entry])?))?;
-    Ok(Move::of(shape, parts).ok_or("refused")?)
+    Ok(Move::of(alloc, shape, parts)?.ok_or("refused")?)
 }
 
 fn append(
@@ -75,6 +75,9 @@ fn one_edit(rt: HostRuntime) -> Result<(), Fail> {
     assert_eq!(rt; log.touched_since(0, whole), Some(1));
     assert_eq!(rt; log.since(whole, 1), 1);
     assert_eq!(rt; log.since(whole, 0), 0);
+    let half = log.node_at(whole, 1).left().ok_or("no half")?;
+    assert_eq!(rt; (half.since(), half.count()), (1, 1));
+    assert_eq!(rt; half.copy(alloc)?.list().len(), 1);
     Ok(())
 }
 

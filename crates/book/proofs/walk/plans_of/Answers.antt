@@ -2,7 +2,8 @@ use Rattle.std.proofs.Common.{◌≡◌, ◌∙◌, ◌+◌, ap, subst, sym, ari
 use Rattle.std.specs.Prelude.{map, sum_by}
 use Rattle.std.proofs.lemmas.List.{take_all}
 use Rattle.solve.specs.declared.plan.Plan.{Plan}
-use Rattle.book.specs.Walks.{Visit, visit_of, visits_of, pieces_of, walk}
+use Rattle.versions.specs.LogNodes.{LogNodeValue}
+use Rattle.book.specs.Walks.{Pair, Visit, visit_of, visits_of, pieces_of, walk}
 use Rattle.book.specs.Plans.{IsPlanOf, ArePlansOf}
 use Rattle.book.specs.Books.{held}
 use Rattle.book.proofs.PieceLaws.{pieces-are}
@@ -20,31 +21,40 @@ visits-are : (g : Over) (c : After-deref-node-items g)
     ≡ walk c.args.log.now.edits c.args.version (held c.args.cache.now.entries) c.args.from c.args.to
 visits-are g c = ap (map (visit_of c.args.log.now.edits c.args.version (held c.args.cache.now.entries))) (nodes-are g c)
 
+-- the visit of a node in a version of a log
+abbrev visit_at : List Pair → LogNodeValue → Visit
+visit_at pairs w = visit_of w.log.edits w.version pairs w.node
+
 pub loop-node-preserved : goal.loop-node-preserved
 loop-node-preserved g c =
     let visit = visit_of c.args.log.now.edits c.args.version (held c.args.cache.now.entries) in
     let nodes = c.deref-node-items.result.now in let i = c.loop-node.node-index in let node = c.node-item.result in
+    let visits : visits_of (visit_at (held c.args.cache.now.entries) c.node_at-here.result) ≡ visits_of (visit c.node-item.result) = ap (λ (w : LogNodeValue). visits_of (visit_at (held c.args.cache.now.entries) w)) c.node_at-here.ensures in
+    let plan : IsPlanOf c.args.log.now.extent c.args.log.now.edits c.args.version (visit node) c.in_ok-visit.field-0 =
+    subst (λ (w : LogNodeValue). IsPlanOf w.log.extent w.log.edits w.version (visit_at (held c.args.cache.now.entries) w) c.in_ok-visit.field-0) c.node_at-here.ensures c.in_ok-visit.ensures.plan in
     record {
       plans =
           subst (λ (plans : List Plan). ArePlansOf c.args.log.now.extent c.args.log.now.edits c.args.version (map visit (take (i + 1) nodes)) plans) (sym c.in_ok-push.ensures.items)
           (plans-more visit nodes i node c.loop-node-test.true c.node-item.is (IsPlanOf c.args.log.now.extent c.args.log.now.edits c.args.version) c.loop-node.plans.items c.in_ok-visit.field-0
-          c.loop-node.invariant.plans c.in_ok-visit.ensures.plan);
-      ticks = omega (arith, c.loop-node.invariant.ticks, c.in_ok-visit.ensures.ticks, count-more visit nodes i node c.loop-node-test.true c.node-item.is);
+          c.loop-node.invariant.plans plan);
+      ticks = omega (arith, c.loop-node.invariant.ticks, c.in_ok-visit.ensures.ticks, visits, count-more visit nodes i node c.loop-node-test.true c.node-item.is);
     }
 
 pub returns-in_err-visit-clause-at_most : goal.returns-in_err-visit-clause-at_most
 returns-in_err-visit-clause-at_most g c =
     let visit = visit_of c.args.log.now.edits c.args.version (held c.args.cache.now.entries) in
+    let visits : visits_of (visit_at (held c.args.cache.now.entries) c.node_at-here.result) ≡ visits_of (visit c.node-item.result) = ap (λ (w : LogNodeValue). visits_of (visit_at (held c.args.cache.now.entries) w)) c.node_at-here.ensures in
     let within = count-within visit c.deref-node-items.result.now c.loop-node.node-index c.node-item.result c.loop-node-test.true c.node-item.is in
     let all = ap (sum_by visits_of) (visits-are g (goal.at.returns-in_err-visit-clause-at_most g c).After-deref-node-items) in
-    (omega (arith, c.loop-node.invariant.ticks, c.visit.ensures.at_most), omega (arith, c.loop-node.invariant.ticks, c.visit.ensures.at_most, within, all))
+    (omega (arith, c.loop-node.invariant.ticks, c.visit.ensures.at_most), omega (arith, c.loop-node.invariant.ticks, c.visit.ensures.at_most, visits, within, all))
 
 pub returns-in_err-push-clause-at_most : goal.returns-in_err-push-clause-at_most
 returns-in_err-push-clause-at_most g c =
     let visit = visit_of c.args.log.now.edits c.args.version (held c.args.cache.now.entries) in
+    let visits : visits_of (visit_at (held c.args.cache.now.entries) c.node_at-here.result) ≡ visits_of (visit c.node-item.result) = ap (λ (w : LogNodeValue). visits_of (visit_at (held c.args.cache.now.entries) w)) c.node_at-here.ensures in
     let within = count-within visit c.deref-node-items.result.now c.loop-node.node-index c.node-item.result c.loop-node-test.true c.node-item.is in
     let all = ap (sum_by visits_of) (visits-are g (goal.at.returns-in_err-push-clause-at_most g c).After-deref-node-items) in
-    (omega (arith, c.loop-node.invariant.ticks, c.in_ok-visit.ensures.ticks), omega (arith, c.loop-node.invariant.ticks, c.in_ok-visit.ensures.ticks, within, all))
+    (omega (arith, c.loop-node.invariant.ticks, c.in_ok-visit.ensures.ticks), omega (arith, c.loop-node.invariant.ticks, c.in_ok-visit.ensures.ticks, visits, within, all))
 
 pub returns-clause-plans : goal.returns-clause-plans
 returns-clause-plans g c =

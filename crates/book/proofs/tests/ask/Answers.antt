@@ -19,7 +19,7 @@ use Rattle.book.proofs.StateLaws.{state-push}
 use Rattle.book.proofs.MissLaws.{missed-are, misses-are_nodes}
 use Rattle.book.proofs.LookLaws.{refused-late}
 use Rattle.book.proofs.PlanLaws.{settled-by}
-use Rattle.book.proofs.tests.ask_with.Goals as goal
+use Rattle.book.proofs.tests.ask.Goals as goal
 
 -- these nodes settle a look that is pending after these edits
 abbrev Settles : Extent → List SolvedNode → List Accepted → Option PendingLook → Type 0
@@ -69,7 +69,7 @@ look-settles book q work solved answered is are some =
     (found-settles book q work solved answered is are (ap (λ (s : State). is_some (pending_of 1 s.pending)) (sym after) ∙ some))
 
 pub settle-requires-clause-settled : goal.settle-requires-clause-settled
-settle-requires-clause-settled g c =
+settle-requires-clause-settled c =
     let book : BookValue = c.args.book.now in
     let q : Query = c.args.q in
     let work : WorkValue = c.in-Work.work in
