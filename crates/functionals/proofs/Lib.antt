@@ -7,3 +7,4 @@ pub mod Rising
 pub mod Tables
 pub mod Added
 pub mod Rooms
+pub mod Shares

@@ -22,7 +22,8 @@ mass-room k terms i d fits here =
           (λ t. part-le (nat_eq (length t.word) k) (unsigned_abs t.coefficient)),
     )
 
-mass-le : (k : ℕ) (terms : List WordTerm) → mass k terms ≤ norm terms
+-- the mass is at most the norm
+pub mass-le : (k : ℕ) (terms : List WordTerm) → mass k terms ≤ norm terms
 mass-le k [] = omega arith
 mass-le k (t ∷ terms) =
     omega (

@@ -1,6 +1,7 @@
 //! Linear functionals of signatures, and their shuffle product.
 #![tactic(auto)]
 
+mod bound;
 mod collecting;
 pub mod fault;
 pub mod functional;
@@ -14,7 +15,7 @@ pub use fault::{FunctionalFault, ShuffleFault};
 pub use functional::Functional;
 pub use product::shuffle_product;
 pub use term::WordTerm;
-pub use value::apply;
+pub use value::{apply, value_within};
 
 /// The greatest absolute value of a number.
 pub(crate) const LIMIT: u128 = i128::MAX as u128;

@@ -1,13 +1,12 @@
 ghost use Rattle.std.specs.Prelude.{◌≡◌, ◌<◌, length, IfOk};
+ghost use Rattle.functionals.specs.Bounds.{IsSmall};
 
 use crate::{Functional, FunctionalFault, ShuffleFault, WordTerm, apply, shuffle_product};
 use std::alloc::Global;
-use std::marker::Brand;
 use std::process::Abort;
-use std::sync::ledger::{Blank, Ledger};
 use std::test::Fail;
 use tensor_product::{Overflow, ProductFault, Sig, exp_row};
-use words::{Memory, Shape, Steps, Word};
+use words::{Free, Memory, Shape, Steps, Word};
 
 const LIMIT: i128 = i128::MAX;
 
@@ -39,19 +38,11 @@ fn terms_are(rt: &impl Abort, f: &Functional, expected: &[(i128, &[u32])]) {
 }
 
 /// The exponential of a row, with a count of its own.
-fn exponential<L: Ledger>(
-    alloc: Global,
-    shape: Shape,
-    row: &[i64],
-    blank: Blank,
-) -> Result<Sig, ProductFault>
-    requires name { blank.name ≡ L.name }
-    requires parts { blank.parts ≡ L.parts }
-    requires some { 0 < L.parts }
+fn exponential(alloc: Global, shape: Shape, row: &[i64]) -> Result<Sig, ProductFault>
     requires row { length row.now ≡ shape.width }
     ensures { IfOk result (λ s. s.tensor.extent ≡ shape) }
 {
-    let mut steps: Steps<L> = Steps::new(blank);
+    let mut steps = Steps::new(Free);
     exp_row(alloc, shape, row, &mut steps)
 }
 
@@ -111,7 +102,7 @@ fn values(rt: HostRuntime) -> Result<(), Fail> {
     let unit = Sig::unit(alloc, square)?;
     assert_eq!(rt; apply(&high, &unit)?, 0);
     let line = Shape::new(1, 8)?;
-    let greatest = exponential::<Brand>(alloc, line, &[60096], Blank::new(1))?;
+    let greatest = exponential(alloc, line, &[60096])?;
     let one = functional(alloc, line, &[(1, &[1])])?;
     assert_eq!(rt; apply(&one, &greatest)?, 2423070720);
     let much = functional(
@@ -127,13 +118,45 @@ fn values(rt: HostRuntime) -> Result<(), Fail> {
 fn value_of_a_product(rt: HostRuntime) -> Result<(), Fail> {
     let alloc = rt.alloc();
     let shape = Shape::new(2, 2)?;
-    let s = exponential::<Brand>(alloc, shape, &[3, 5], Blank::new(1))?;
+    let s = exponential(alloc, shape, &[3, 5])?;
     let f = functional(alloc, shape, &[(2, &[]), (1, &[1])])?;
     let g = functional(alloc, shape, &[(-1, &[2])])?;
     let product = shuffle_product(alloc, &f, &g)?;
     assert_eq!(rt; apply(&f, &s)?, 10);
     assert_eq!(rt; apply(&g, &s)?, -10);
     assert_eq!(rt; apply(&product, &s)?, -50);
+    Ok(())
+}
+
+/// A functional whose norm is at most 2^47.
+fn small(
+    rt: &impl Abort,
+    alloc: Global,
+    shape: Shape,
+    terms: &[(i128, &[u32])],
+) -> Result<Functional, Fail>
+    ensures extent { IfOk result (λ f. f.extent ≡ shape) }
+    ensures small { IfOk result (λ f. IsSmall f.terms) }
+{
+    let f = functional(alloc, shape, terms)?;
+    assert!(rt; f.norm() <= 140737488355328);
+    Ok(f)
+}
+
+#[test]
+fn bounds(rt: HostRuntime) -> Result<(), Fail> {
+    let alloc = rt.alloc();
+    let line = Shape::new(1, 8)?;
+    let first = small(&rt, alloc, line, &[(1, &[1])])?;
+    let last = small(&rt, alloc, line, &[(1, &[1, 1, 1, 1, 1, 1, 1, 1])])?;
+    assert!(rt; first.bound().fits(60096));
+    assert!(rt; !first.bound().fits(60097));
+    assert!(rt; !last.bound().fits(60096));
+    let s = exponential(alloc, line, &[45000])?;
+    assert!(rt; first.bound().fits(s.weight()));
+    assert_eq!(rt; apply(&first, &s)?, 1814400000);
+    assert!(rt; last.bound().fits(s.weight()));
+    assert_eq!(rt; apply(&last, &s)?, 16815125390625000000000000000000000000);
     Ok(())
 }
 

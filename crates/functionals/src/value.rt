@@ -1,10 +1,11 @@
 ghost use Rattle.std.specs.Prelude.{◌≡◌, ◌≢◌, ◌+◌, ◌*◌, ◌^◌, ◌/◌, ◌<◌, ◌≤◌, ◌↔◌, ◌+ℤ◌, ◌*ℤ◌, List, pos, length, unsigned_abs, IfOk, IfErr, OnOk, SomeIff, IsTrue};
 ghost use Rattle.definitions.specs.Words.{IsWord, factorial as product_to};
 ghost use Rattle.definitions.specs.Moves.{Parts};
-ghost use Rattle.definitions.specs.Signature.{signature, limit};
+ghost use Rattle.definitions.specs.Signature.{signature, limit, Fits};
 ghost use Rattle.scaled_tensor.specs.Tensors.{coefficient};
 ghost use Rattle.tensor_product.specs.Sigs.{StandsFor};
 ghost use Rattle.functionals.specs.Functionals.{IsFunctional, value, term_value, term_size, size, term_bound, value_bound};
+ghost use Rattle.functionals.specs.Bounds.{IsSmall, eval_factors};
 
 use crate::LIMIT;
 use crate::functional::Functional;
@@ -14,7 +15,7 @@ use tensor_product::{Overflow, Sig};
 use words::factorial;
 
 /// The product of the numbers k + 1 .. depth.
-fn part_of(depth: u32, k: u32) -> u64
+pub(crate) fn part_of(depth: u32, k: u32) -> u64
     requires depth { depth ≤ 8 }
     requires k { k ≤ depth }
     ensures value { result ≡ product_to depth / product_to k }
@@ -141,4 +142,21 @@ pub fn apply(f: &Functional, s: &Sig) -> Result<i128, Overflow>
         return Err(Overflow(weight));
     }
     Ok(sum_of(f, s.tensor()))
+}
+
+/// The value of a functional at a signature whose weight fits the functional's bound, over N! where
+/// N is the depth. Takes no memory.
+pub fn value_within(f: &Functional, s: &Sig) -> i128
+    requires extent { f.now.extent ≡ s.now.tensor.extent }
+    requires small { IsSmall f.now.terms }
+    requires fits { Fits (eval_factors f.now.extent f.now.terms) s.now.weight }
+    ensures coefficients { result ≡ value f.now.extent.depth (coefficient s.now.tensor) f.now.terms }
+    ensures signature { (moves : List Parts) → StandsFor s.now moves → result ≡ value f.now.extent.depth (signature moves) f.now.terms }
+{
+    // they say that the words are of the shape
+    let _terms = f.terms();
+    match apply(f, s) {
+        Ok(value) => value,
+        Err(_overflow) => unreachable!(),
+    }
 }
