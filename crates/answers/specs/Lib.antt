@@ -5,3 +5,5 @@ pub mod Generator
 pub mod Totals
 pub mod Told
 pub mod CbhText
+pub mod Padded
+pub mod Pieces

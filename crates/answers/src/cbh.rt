@@ -3,6 +3,7 @@ ghost use Rattle.std.specs.Prelude.{◌≡◌, ◌++◌, string_bytes, OnOk, IfO
 ghost use Rattle.answers.specs.CbhText.{HasNumbers, result_text, cbh_text};
 
 use crate::coordinates::push_log_levels;
+use crate::names::Names;
 use hall_set::HallSet;
 use lie_bracket::LieElement;
 use std::alloc::Global;
@@ -22,12 +23,17 @@ pub enum CbhResult {
 }
 
 /// Appends the levels of a logarithm, or why there are none.
-fn push_result(text: &mut String, hall: &HallSet, reply: &CbhResult) -> Result<(), Memory>
+fn push_result(
+    text: &mut String,
+    names: &mut Names,
+    hall: &HallSet,
+    reply: &CbhResult,
+) -> Result<(), Memory>
     requires { HasNumbers hall.now reply.now }
     ensures { OnOk result (string_bytes text.new ≡ string_bytes text.old ++ result_text hall.now reply.now) }
 {
     match reply {
-        CbhResult::Lie(lie) => push_log_levels(text, hall, lie)?,
+        CbhResult::Lie(lie) => push_log_levels(text, names, hall, lie)?,
         CbhResult::Pair(a, b) => writeln!(text, "growth {a} {b}")?,
         CbhResult::Level(k) => writeln!(text, "growth-level {k}")?,
         CbhResult::Overflow(weight) => writeln!(text, "overflow {weight}")?,
@@ -53,6 +59,6 @@ pub fn cbh_text(
     let depth = shape.depth();
     writeln!(text, "shape {width} {depth}")?;
     writeln!(text, "cbh {count}")?;
-    push_result(&mut text, hall, reply)?;
+    push_result(&mut text, &mut Names::new(alloc), hall, reply)?;
     Ok(text.into_bytes())
 }

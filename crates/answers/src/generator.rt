@@ -30,7 +30,7 @@ fn drawn_move(alloc: Global, shape: Shape, z: u64) -> Result<Move, Memory>
 {
     let mut parts = Vec::new(alloc);
     parts.push(Entries::of(drawn_entries(alloc, z)?))?;
-    match Move::of(shape, parts) {
+    match Move::of(alloc, shape, parts)? {
         Some(x) => Ok(x),
         None => unreachable!(),
     }
@@ -40,7 +40,7 @@ fn drawn_move(alloc: Global, shape: Shape, z: u64) -> Result<Move, Memory>
 fn numbered_name(alloc: Global, i: u32) -> Result<Name, Memory>
     ensures { IfOk result (λ name. name ≡ row_name i) }
 {
-    Ok(Name::of(format!(in alloc; "r{i}")?))
+    Name::of(format!(in alloc; "r{i}")?)
 }
 
 /// The kind of query of the command of number i.

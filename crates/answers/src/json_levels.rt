@@ -9,14 +9,17 @@ ghost use Rattle.serde_json.specs.View.{view};
 ghost use Rattle.answers.specs.Text.{word_text};
 ghost use Rattle.answers.specs.Json.{list, term_json, level_json, signature_level, signature_levels, coordinate_json, logarithm_level, logarithm_levels};
 
-use crate::levels::{push_joined, push_number};
+use crate::decimals::{push_number, push_signed};
+use crate::member_texts::MemberTexts;
+use crate::names::Names;
+use crate::word_texts::WordTexts;
 use hall_set::HallSet;
 use itoa::Integer;
 use lie_bracket::{LieElement, Term};
 use scaled_tensor::Tensor;
 use serde_json::{Value, json};
 use std::alloc::Global;
-use words::{Memory, Shape, lie_den, sig_den};
+use words::{Memory, lie_den, sig_den};
 
 /// A number in decimal.
 pub(crate) fn decimal_text<I: Integer>(alloc: Global, number: I) -> Result<String, Memory>
@@ -27,45 +30,42 @@ pub(crate) fn decimal_text<I: Integer>(alloc: Global, number: I) -> Result<Strin
     Ok(text)
 }
 
-/// The letters of a word in round brackets, with commas between.
-fn word_name(alloc: Global, word: &[u32]) -> Result<String, Memory>
-    ensures { IfOk result (λ name. string_bytes name ≡ word_text word.now) }
+/// A number with its sign in decimal.
+fn signed_text(alloc: Global, number: i128) -> Result<String, Memory>
+    ensures { IfOk result (λ text. string_bytes text ≡ signed_decimal number) }
 {
-    let mut name = String::new(alloc);
-    name.push_str("(")?;
-    push_joined(&mut name, word)?;
-    name.push_str(")")?;
-    Ok(name)
+    let mut text = String::new(alloc);
+    push_signed(&mut text, number)?;
+    Ok(text)
 }
 
 /// A name and its coefficient, both as text.
-fn term_value(alloc: Global, name: String, factor: i128) -> Result<Value, Memory>
-    ensures { IfOk result (λ term. view term ≡ list (string (string_bytes name) ∷ string (signed_decimal factor) ∷ [])) }
+fn term_value(alloc: Global, name: &str, factor: i128) -> Result<Value, Memory>
+    ensures { IfOk result (λ term. view term ≡ list (string name.now ∷ string (signed_decimal factor) ∷ [])) }
 {
-    let factor = decimal_text(alloc, factor)?;
+    let name = String::from_str(alloc, name)?;
+    let factor = signed_text(alloc, factor)?;
     Ok(json!(in alloc; [name, factor])?)
 }
 
-/// Adds the word of that number among those of `word.len()` letters and its coefficient,
-/// and nothing where that is 0. The word is written into `word`.
+/// Adds the word of that number among those of k letters and its coefficient, and nothing where
+/// that is 0.
 fn add_numbered(
     terms: &mut Vec<Value>,
     alloc: Global,
-    shape: Shape,
+    words: &WordTexts,
+    k: u32,
     number: u64,
     value: i128,
-    word: &mut [u32],
 ) -> Result<(), Memory>
-    requires short { length word.old ≤ shape.depth }
-    requires number { number < shape.width ^ length word.old }
-    ensures { OnOk result (map view terms.new.items ≡ map view terms.old.items ++ term_json (word_text (slice_index_or (words_of shape.width (length word.old)) number [])) value) }
+    requires depth { k ≤ words.now.depth }
+    requires number { number < words.now.width ^ k }
+    ensures { OnOk result (map view terms.new.items ≡ map view terms.old.items ++ term_json (word_text (slice_index_or (words_of words.now.width k) number [])) value) }
 {
     if value == 0 {
         return Ok(());
     }
-    shape.write_word(number, word);
-    let name = word_name(alloc, word)?;
-    let term = term_value(alloc, name, value)?;
+    let term = term_value(alloc, words.text(k, number), value)?;
     terms.push(term)?;
     Ok(())
 }
@@ -73,19 +73,17 @@ fn add_numbered(
 /// The words of k letters whose coefficients aren't 0, in lexicographic order.
 fn word_terms(
     alloc: Global,
-    shape: Shape,
+    words: &WordTexts,
     k: u32,
     coefficients: &[i128],
 ) -> Result<Vec<Value>, Memory>
-    requires depth { k ≤ shape.depth }
-    requires all_words { length coefficients.now ≡ shape.width ^ k }
-    ensures { IfOk result (λ terms. map view terms.items ≡ flat_map (λ word. term_json (word_text word) (slice_index_or coefficients.now (number shape.width word) (pos 0))) (words_of shape.width k)) }
+    requires depth { k ≤ words.now.depth }
+    requires all_words { length coefficients.now ≡ words.now.width ^ k }
+    ensures { IfOk result (λ terms. map view terms.items ≡ flat_map (λ word. term_json (word_text word) (slice_index_or coefficients.now (number words.now.width word) (pos 0))) (words_of words.now.width k)) }
 {
     let mut terms = Vec::new(alloc);
-    let mut letters = [1u32; 8];
-    let word = &mut letters[..k as usize];
     for (index, value) in coefficients.iter().enumerate() {
-        add_numbered(&mut terms, alloc, shape, index as u64, *value, word)?;
+        add_numbered(&mut terms, alloc, words, k, index as u64, *value)?;
     }
     Ok(terms)
 }
@@ -99,21 +97,34 @@ fn level_value(alloc: Global, denominator: u64, terms: Vec<Value>) -> Result<Val
 }
 
 /// Level k of a signature.
-fn signature_level_value(alloc: Global, tensor: &Tensor, k: u32) -> Result<Value, Memory>
-    requires { k ≤ tensor.now.extent.depth }
+fn signature_level_value(
+    alloc: Global,
+    words: &WordTexts,
+    tensor: &Tensor,
+    k: u32,
+) -> Result<Value, Memory>
+    requires words { words.now ≡ tensor.now.extent }
+    requires depth { k ≤ tensor.now.extent.depth }
+    requires small { k ≤ 8 }
     ensures { IfOk result (λ level. view level ≡ signature_level tensor.now.extent (coefficient tensor.now) k) }
 {
-    let terms = word_terms(alloc, tensor.shape(), k, tensor.level(k))?;
+    let terms = word_terms(alloc, words, k, tensor.level(k))?;
     level_value(alloc, sig_den(k), terms)
 }
 
 /// The levels of a signature from 1 on.
-pub(crate) fn signature_values(alloc: Global, tensor: &Tensor) -> Result<Vec<Value>, Memory>
+pub(crate) fn signature_values(
+    alloc: Global,
+    names: &mut Names,
+    tensor: &Tensor,
+) -> Result<Vec<Value>, Memory>
     ensures { IfOk result (λ levels. map view levels.items ≡ signature_levels tensor.now.extent (coefficient tensor.now)) }
 {
+    let shape = tensor.shape();
+    let words = names.words(shape)?;
     let mut levels = Vec::new(alloc);
-    for before in 0..tensor.shape().depth() {
-        let level = signature_level_value(alloc, tensor, before + 1)?;
+    for before in 0..shape.depth() {
+        let level = signature_level_value(alloc, words, tensor, before + 1)?;
         levels.push(level)?;
     }
     Ok(levels)
@@ -123,17 +134,18 @@ pub(crate) fn signature_values(alloc: Global, tensor: &Tensor) -> Result<Vec<Val
 fn coordinate_terms(
     alloc: Global,
     hall: &HallSet,
+    members: &MemberTexts,
     terms: &[Term],
     k: u32,
 ) -> Result<Vec<Value>, Memory>
-    requires { All (λ t. InHall (hall_list hall.now.width hall.now.depth) t.number) terms.now }
+    requires members { members.now ≡ hall.now }
+    requires numbers { All (λ t. InHall (hall_list hall.now.width hall.now.depth) t.number) terms.now }
     ensures { IfOk result (λ coordinates. map view coordinates.items ≡ flat_map (coordinate_json (hall_list hall.now.width hall.now.depth) k) terms.now) }
 {
     let mut coordinates = Vec::new(alloc);
     for term in terms {
         if hall.degree(term.number) == k {
-            let name = hall.text(alloc, term.number)?;
-            let coordinate = term_value(alloc, name, term.factor)?;
+            let coordinate = term_value(alloc, members.text(term.number), term.factor)?;
             coordinates.push(coordinate)?;
         }
     }
@@ -144,30 +156,34 @@ fn coordinate_terms(
 fn logarithm_level_value(
     alloc: Global,
     hall: &HallSet,
+    members: &MemberTexts,
     terms: &[Term],
     k: u32,
 ) -> Result<Value, Memory>
-    requires members { All (λ t. InHall (hall_list hall.now.width hall.now.depth) t.number) terms.now }
+    requires members { members.now ≡ hall.now }
+    requires numbers { All (λ t. InHall (hall_list hall.now.width hall.now.depth) t.number) terms.now }
     requires small { k ≤ 8 }
     ensures { IfOk result (λ level. view level ≡ logarithm_level hall.now terms.now k) }
 {
-    let coordinates = coordinate_terms(alloc, hall, terms, k)?;
+    let coordinates = coordinate_terms(alloc, hall, members, terms, k)?;
     level_value(alloc, lie_den(k), coordinates)
 }
 
 /// The levels of a logarithm.
 pub(crate) fn logarithm_values(
     alloc: Global,
+    names: &mut Names,
     hall: &HallSet,
     lie: &LieElement,
 ) -> Result<Vec<Value>, Memory>
     requires { All (λ t. InHall (hall_list hall.now.width hall.now.depth) t.number) lie.now }
     ensures { IfOk result (λ levels. map view levels.items ≡ logarithm_levels hall.now lie.now) }
 {
+    let members = names.members(hall)?;
     let terms = lie.terms();
     let mut levels = Vec::new(alloc);
     for before in 0..hall.shape().depth() {
-        let level = logarithm_level_value(alloc, hall, terms, before + 1)?;
+        let level = logarithm_level_value(alloc, hall, members, terms, before + 1)?;
         levels.push(level)?;
     }
     Ok(levels)

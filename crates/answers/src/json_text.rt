@@ -10,6 +10,7 @@ ghost use Rattle.answers.specs.Json.{natural, list, edit_json, look_json, answer
 
 use crate::json_levels::{decimal_text, logarithm_values, signature_values};
 use crate::json_watches::watch_values;
+use crate::names::Names;
 use hall_set::HallSet;
 use serde_json::{Map, Value, json, put};
 use session::{Answer, EditReply, LookReply, Outcome, Transcript};
@@ -126,6 +127,7 @@ fn look_value(
 /// The answer to the command of that number.
 fn answer_value(
     alloc: Global,
+    names: &mut Names,
     hall: &HallSet,
     number: usize,
     answer: &Answer,
@@ -140,11 +142,11 @@ fn answer_value(
         }
         Answer::Edit(EditReply::NoRow(version)) => version_value(alloc, number, "no-row", *version),
         Answer::Sig { reply, tensor } => {
-            let levels = signature_values(alloc, tensor)?;
+            let levels = signature_values(alloc, names, tensor)?;
             look_value(alloc, number, "sig", *reply, levels)
         }
         Answer::Log { reply, lie } => {
-            let levels = logarithm_values(alloc, hall, lie)?;
+            let levels = logarithm_values(alloc, names, hall, lie)?;
             look_value(alloc, number, "log", *reply, levels)
         }
         Answer::Refused(reply) => look_value(alloc, number, "", *reply, Vec::new(alloc)),
@@ -152,13 +154,18 @@ fn answer_value(
 }
 
 /// The answers to commands that are numbered from 1.
-fn answer_values(alloc: Global, hall: &HallSet, answers: &[Answer]) -> Result<Vec<Value>, Memory>
+fn answer_values(
+    alloc: Global,
+    names: &mut Names,
+    hall: &HallSet,
+    answers: &[Answer],
+) -> Result<Vec<Value>, Memory>
     requires { All (HasMembers hall.now) answers.now }
     ensures { IfOk result (λ values. (dues : List Due) → ShowsEach hall.now answers.now dues → map view values.items ≡ answers_json hall.now 1 dues) }
 {
     let mut values = Vec::new(alloc);
     for (before, answer) in answers.iter().enumerate() {
-        let value = answer_value(alloc, hall, before + 1, answer)?;
+        let value = answer_value(alloc, names, hall, before + 1, answer)?;
         values.push(value)?;
     }
     Ok(values)
@@ -167,6 +174,7 @@ fn answer_values(alloc: Global, hall: &HallSet, answers: &[Answer]) -> Result<Ve
 /// The answers of each session.
 fn session_values(
     alloc: Global,
+    names: &mut Names,
     hall: &HallSet,
     transcripts: &[Transcript],
 ) -> Result<Vec<Value>, Memory>
@@ -175,7 +183,7 @@ fn session_values(
 {
     let mut values = Vec::new(alloc);
     for transcript in transcripts {
-        let answers = answer_values(alloc, hall, transcript.list())?;
+        let answers = answer_values(alloc, names, hall, transcript.list())?;
         values.push(Value::Array(answers))?;
     }
     Ok(values)
@@ -245,7 +253,7 @@ fn outcome_value(
 {
     let shape = hall.shape();
     let order = order_values(alloc, &outcome.order)?;
-    let sessions = session_values(alloc, hall, &outcome.transcripts)?;
+    let sessions = session_values(alloc, &mut Names::new(alloc), hall, &outcome.transcripts)?;
     let touched = watch_values(alloc, shape, watches, &outcome.edits)?;
     let versions = outcome.edits.len();
     parts_value(alloc, order, sessions, shape, versions, touched)

@@ -3,17 +3,22 @@
 
 pub mod cbh;
 mod coordinates;
+mod decimals;
 mod generator;
 mod json_levels;
 mod json_text;
 mod json_watches;
 pub mod laws;
 mod levels;
+mod member_texts;
+mod names;
 mod summary;
 #[cfg(test)]
 mod tests;
 mod text;
+mod texts;
 mod watched;
+mod word_texts;
 
 pub use cbh::{CbhResult, cbh_text};
 pub use generator::gen_script;

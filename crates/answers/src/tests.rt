@@ -2,12 +2,12 @@ ghost use Rattle.std.specs.Prelude.{◌≡◌, ◌<◌, ◌≤◌, length, All};
 ghost use Rattle.watches.specs.Watches.{IsInterval};
 ghost use Rattle.answers.specs.CbhText.{HasNumbers};
 
+use crate::decimals::push_signed;
 use crate::{CbhResult, cbh_text, gen_script, json_of, summary_of, text_of};
 use hall_set::HallSet;
 use scaled_tensor::Tensor;
 use session::{Answer, EditReply, LookReply, Outcome, Transcript, replay_round};
 use std::alloc::Global;
-use std::sync::ledger::{Blank, Ledger};
 use std::test::Fail;
 use watches::Interval;
 use words::{Capacity, Free, Memory, Shape, ShapeFault, Steps};
@@ -144,21 +144,13 @@ struct Written {
 }
 
 /// The run of the script that n generates, with these watches.
-fn run_of<L: Ledger>(
-    alloc: Global,
-    n: u32,
-    watches: &[Interval],
-    blank: Blank,
-) -> Result<Written, Memory>
+fn run_of(alloc: Global, n: u32, watches: &[Interval]) -> Result<Written, Memory>
     requires some { 1 ≤ n }
     requires within { n ≤ 10000 }
     requires few { length watches.now ≤ 64 }
     requires watches { All IsInterval watches.now }
-    requires name { blank.name ≡ L.name }
-    requires parts { blank.parts ≡ L.parts }
-    requires counted { 0 < L.parts }
 {
-    let mut steps: Steps<L> = Steps::new(blank);
+    let mut steps = Steps::new(Free);
     let script = gen_script(alloc, n)?;
     let outcome = replay_round(alloc, &script, Capacity::usual(), &mut steps)?;
     let summary = summary_of(alloc, n, script.shape(), &outcome)?;
@@ -173,19 +165,9 @@ fn run_of<L: Ledger>(
     })
 }
 
-/// That run, over a count of steps that nobody reads.
-fn free_run_of(alloc: Global, n: u32, watches: &[Interval]) -> Result<Written, Memory>
-    requires some { 1 ≤ n }
-    requires within { n ≤ 10000 }
-    requires few { length watches.now ≤ 64 }
-    requires watches { All IsInterval watches.now }
-{
-    run_of::<Free>(alloc, n, watches, Blank::new(1))
-}
-
 #[test]
 fn eight_commands(rt: HostRuntime) -> Result<(), Fail> {
-    let written = free_run_of(rt.alloc(), 8, &[])?;
+    let written = run_of(rt.alloc(), 8, &[])?;
     assert_eq!(rt;
         written.order.as_slice(),
         [1, 2, 3, 4, 1, 2, 3, 4, 4].as_slice()
@@ -222,7 +204,7 @@ fn one_command(rt: HostRuntime) -> Result<(), Fail> {
         },
         Interval { from: 0, to: 9536 },
     ];
-    let written = free_run_of(rt.alloc(), 1, &watches)?;
+    let written = run_of(rt.alloc(), 1, &watches)?;
     assert_eq!(rt;
         written.summary.as_slice(),
         b"gen 1\nsteps 1\nversions 1\nhits 0\nmisses 0\nexps 0\nsum 0\n".as_slice()
@@ -249,5 +231,30 @@ fn products_without_logarithm(rt: HostRuntime) -> Result<(), Fail> {
     assert_eq!(rt; level.as_str(), "shape 2 3\ncbh 7\ngrowth-level 2\n");
     let overflow = refusal_text(rt.alloc(), shape, &CbhResult::Overflow(6185))?;
     assert_eq!(rt; overflow.as_str(), "shape 2 3\ncbh 7\noverflow 6185\n");
+    Ok(())
+}
+
+#[test]
+fn wide_numbers(rt: HostRuntime) -> Result<(), Fail> {
+    for (number, want) in [
+        (9_999_999_999_999_999_999, "9999999999999999999"),
+        (10_000_000_000_000_000_000, "10000000000000000000"),
+        (-10_000_000_000_000_000_007, "-10000000000000000007"),
+        (
+            99_999_999_999_999_999_999_999_999_999_999_999_999,
+            "99999999999999999999999999999999999999",
+        ),
+        (
+            100_000_000_000_000_000_000_000_000_000_000_000_000,
+            "100000000000000000000000000000000000000",
+        ),
+        (i128::MAX, "170141183460469231731687303715884105727"),
+        (i128::MIN + 1, "-170141183460469231731687303715884105727"),
+        (i128::MIN, "-170141183460469231731687303715884105728"),
+    ] {
+        let mut text = String::new(rt.alloc());
+        push_signed(&mut text, number)?;
+        assert_eq!(rt; text.as_str(), want);
+    }
     Ok(())
 }

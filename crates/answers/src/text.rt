@@ -6,7 +6,9 @@ ghost use Rattle.watches.specs.Watches.{IsInterval};
 ghost use Rattle.answers.specs.Text.{look_text, answer_text, answers_text, sessions_text, outcome_text};
 
 use crate::coordinates::push_log_levels;
-use crate::levels::{push_levels, push_listed};
+use crate::decimals::push_listed;
+use crate::levels::push_levels;
+use crate::names::Names;
 use crate::watched::push_watches;
 use hall_set::HallSet;
 use session::{Answer, EditReply, LookReply, Outcome, Transcript};
@@ -39,6 +41,7 @@ fn push_look(text: &mut String, kind: &str, reply: LookReply) -> Result<(), Memo
 /// Appends the answer to the command of that number.
 fn push_answer(
     text: &mut String,
+    names: &mut Names,
     hall: &HallSet,
     number: usize,
     answer: &Answer,
@@ -55,12 +58,12 @@ fn push_answer(
         Answer::Sig { reply, tensor } => {
             write!(text, "{number}")?;
             push_look(text, "sig", *reply)?;
-            push_levels(text, tensor)?;
+            push_levels(text, names, tensor)?;
         }
         Answer::Log { reply, lie } => {
             write!(text, "{number}")?;
             push_look(text, "log", *reply)?;
-            push_log_levels(text, hall, lie)?;
+            push_log_levels(text, names, hall, lie)?;
         }
         Answer::Refused(reply) => {
             write!(text, "{number}")?;
@@ -71,12 +74,17 @@ fn push_answer(
 }
 
 /// Appends the answers to commands that are numbered from 1.
-fn push_answers(text: &mut String, hall: &HallSet, answers: &[Answer]) -> Result<(), Memory>
+fn push_answers(
+    text: &mut String,
+    names: &mut Names,
+    hall: &HallSet,
+    answers: &[Answer],
+) -> Result<(), Memory>
     requires { All (HasMembers hall.now) answers.now }
     ensures { OnOk result ((dues : List Due) → ShowsEach hall.now answers.now dues → string_bytes text.new ≡ string_bytes text.old ++ answers_text hall.now 1 dues) }
 {
     for (before, answer) in answers.iter().enumerate() {
-        push_answer(text, hall, before + 1, answer)?;
+        push_answer(text, names, hall, before + 1, answer)?;
     }
     Ok(())
 }
@@ -84,6 +92,7 @@ fn push_answers(text: &mut String, hall: &HallSet, answers: &[Answer]) -> Result
 /// Appends the answers of sessions that are numbered from 1.
 fn push_sessions(
     text: &mut String,
+    names: &mut Names,
     hall: &HallSet,
     transcripts: &[Transcript],
 ) -> Result<(), Memory>
@@ -93,7 +102,7 @@ fn push_sessions(
     for (before, transcript) in transcripts.iter().enumerate() {
         let number = before + 1;
         writeln!(text, "session {number}")?;
-        push_answers(text, hall, transcript.list())?;
+        push_answers(text, names, hall, transcript.list())?;
     }
     Ok(())
 }
@@ -118,7 +127,12 @@ pub fn text_of(
     let depth = shape.depth();
     let versions = outcome.edits.len();
     writeln!(text, "shape {width} {depth}")?;
-    push_sessions(&mut text, hall, &outcome.transcripts)?;
+    push_sessions(
+        &mut text,
+        &mut Names::new(alloc),
+        hall,
+        &outcome.transcripts,
+    )?;
     write!(text, "order ")?;
     push_listed(&mut text, &outcome.order)?;
     writeln!(text)?;

@@ -4,7 +4,7 @@ ghost use Rattle.versions.specs.Versions.{IsEdit, IsAccepted, IsLog, current_row
 ghost use Rattle.watches.specs.Watches.{IsInterval};
 ghost use Rattle.answers.specs.Watched.{watches_text};
 
-use crate::levels::push_listed;
+use crate::decimals::push_listed;
 use std::alloc::Global;
 use versions::Accepted;
 use watches::{FeedFault, Interval, Watches};

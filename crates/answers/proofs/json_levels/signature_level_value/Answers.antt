@@ -13,6 +13,6 @@ pub returns : goal.returns
 returns c =
     let kept : List ℕ → ℤ = λ word. slice_index_or c.level.result.now (number c.args.tensor.now.extent.width word) (pos 0) in
     let told : map view c.in_ok-terms.terms.items ≡ for_words numerator_json (coefficient c.args.tensor.now) (words_of c.args.tensor.now.extent.width c.args.k) =
-    (rw c.shape.ensures.value at c.in_ok-terms.ensures)
-    ∙ words-same numerator_json c.args.tensor.now.extent kept (coefficient c.args.tensor.now) c.args.k c.requires c.level.ensures.value in
+    (rw c.requires.words at c.in_ok-terms.ensures)
+    ∙ words-same numerator_json c.args.tensor.now.extent kept (coefficient c.args.tensor.now) c.args.k c.requires.depth c.level.ensures.value in
     IfOk-weaker c.level_value.result _ _ (λ level is. is ∙ ap₂ level_json c.sig_den.ensures told) c.level_value.ensures

@@ -1,7 +1,7 @@
 use Rattle.std.proofs.Common.{◌≡◌, ◌∙◌, ◌++◌, ◌∷◌, [], List, ℕ, map, flat_map, string_bytes, sym, ap, rules, arith}
 use Rattle.std.specs.List.{join_with_byte}
 use Rattle.std.proofs.lemmas.List.{append-nil, take_all, append_assoc}
-use Rattle.answers.proofs.levels.push_joined.Goals as goal
+use Rattle.answers.proofs.decimals.push_joined.Goals as goal
 
 -- a comma before each text but the first
 texts-joined : {A : Type 0} (f : A → List ℕ) (a : A) (rest : List A) → join_with_byte 44 (map f (a ∷ rest)) ≡ f a ++ flat_map (λ b. 44 ∷ f b) rest
