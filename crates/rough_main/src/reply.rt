@@ -15,10 +15,9 @@ use command_line::Form;
 use hall_set::HallSet;
 use script_reader::{Script, read_script};
 use session::laws::{logarithms_expand, versions_never_fall};
-use session::{Gate, Outcome, ReplayFault, replay, replay_round, run_all};
+use session::{Gate, Outcome, ReplayFault, free_counters, replay, replay_round, run_all};
 use std::alloc::Global;
 use std::sync::Wait;
-use std::sync::ledger::{Blank, Ledger};
 use std::thread::Threads;
 use words::{Capacity, Free, Memory, Steps};
 
@@ -52,21 +51,17 @@ fn reply_with(
     })
 }
 
-/// The reply to a script whose sessions take their steps in this order, over a count of steps that begins here.
-fn reply_counted<L: Ledger>(
+/// The reply to a script whose sessions take their steps in this order, whose steps nobody counts.
+fn reply_ordered(
     alloc: Global,
     script: &Script,
     form: Form,
     capacity: Capacity,
     order: &[u32],
-    blank: Blank,
 ) -> Result<Reply, Memory>
-    requires name { blank.name ≡ L.name }
-    requires parts { blank.parts ≡ L.parts }
-    requires counted { 0 < L.parts }
     ensures { IfOk result (λ reply. IsReply (code_of reply.status) reply.text.items (ordered form capacity script.now order.now)) }
 {
-    let mut steps: Steps<L> = Steps::new(blank);
+    let mut steps = Steps::new(Free);
     match replay(alloc, script, capacity, order, &mut steps) {
         Ok(outcome) => reply_with(alloc, script, form, &outcome),
         Err(ReplayFault::Order(place)) => Ok(Reply {
@@ -93,13 +88,13 @@ pub fn reply_in_order(
         Ok(script) => {
             logarithms_expand(&script);
             versions_never_fall(&script);
-            reply_counted::<Free>(alloc, &script, form, capacity, order, Blank::new(1))
+            reply_ordered(alloc, &script, form, capacity, order)
         }
         Err(fault) => refusal(alloc, fault),
     }
 }
 
-/// The reply to bytes that spell a script whose sessions run on threads. It is that of a legal order.
+/// The reply to bytes that spell a script whose sessions run on threads, whose steps nobody counts. It is that of a legal order.
 pub fn reply_on_threads<R: Threads + Wait + Sync, G: Gate>(
     rt: &R,
     alloc: Global,
@@ -116,34 +111,12 @@ pub fn reply_on_threads<R: Threads + Wait + Sync, G: Gate>(
         Ok(script) => {
             logarithms_expand(&script);
             versions_never_fall(&script);
-            let outcome = run_all(rt, alloc, &script, capacity, gate)?;
-            reply_with(alloc, &script, form, &outcome)
+            let steps = free_counters(alloc, script.sessions().len())?;
+            let ran = run_all(rt, alloc, &script, capacity, gate, steps)?;
+            reply_with(alloc, &script, form, &ran.outcome)
         }
         Err(fault) => refusal(alloc, fault),
     }
-}
-
-/// The summary of the generated script of n commands, over a count of steps that begins here.
-fn generated_counted<L: Ledger>(
-    alloc: Global,
-    n: u32,
-    capacity: Capacity,
-    blank: Blank,
-) -> Result<Reply, Memory>
-    requires name { blank.name ≡ L.name }
-    requires parts { blank.parts ≡ L.parts }
-    requires counted { 0 < L.parts }
-    requires one { 1 ≤ n }
-    requires few { n ≤ 10000 }
-    ensures { IfOk result (λ reply. IsReply (code_of reply.status) reply.text.items (generated_reply n capacity)) }
-{
-    let mut steps: Steps<L> = Steps::new(blank);
-    let script = gen_script(alloc, n)?;
-    let outcome = replay_round(alloc, &script, capacity, &mut steps)?;
-    Ok(Reply {
-        status: Status::Answered,
-        text: summary_of(alloc, n, script.shape(), &outcome)?,
-    })
 }
 
 /// The summary of the generated script of n commands, whose sessions take one step each in turn.
@@ -152,7 +125,13 @@ pub fn reply_generated(alloc: Global, n: u32, capacity: Capacity) -> Result<Repl
     requires few { n ≤ 10000 }
     ensures { IfOk result (λ reply. IsReply (code_of reply.status) reply.text.items (generated_reply n capacity)) }
 {
-    generated_counted::<Free>(alloc, n, capacity, Blank::new(1))
+    let mut steps = Steps::new(Free);
+    let script = gen_script(alloc, n)?;
+    let outcome = replay_round(alloc, &script, capacity, &mut steps)?;
+    Ok(Reply {
+        status: Status::Answered,
+        text: summary_of(alloc, n, script.shape(), &outcome)?,
+    })
 }
 
 /// The reply to words that are refused.

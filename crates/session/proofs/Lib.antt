@@ -4,6 +4,7 @@ mod EndLaws
 mod ExpansionLaws
 pub mod FrameLaws
 mod HoldLaws
+mod JobLaws
 mod MomentLaws
 mod NextLaws
 mod OpeningLaws
@@ -21,4 +22,5 @@ mod TakenLaws
 mod ThreadLaws
 mod TogetherLaws
 mod TurnLaws
+mod UnitLaws
 mod VersionLaws

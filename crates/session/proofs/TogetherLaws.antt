@@ -32,7 +32,7 @@ record Finishes (capacity : ℕ) (extent : Extent) (dues : List Due) (requests :
   told : of_session session run.transcripts ++ dues_of extent (of_session session run.left) (moments capacity session run.state requests) ≡ dues
 
 -- these requests finish a run of so many sessions in this state and with these answers
-record AllFinish (capacity : ℕ) (extent : Extent) (sessions : ℕ) (end : State) (dues : ℕ → List Due) (requests : List Request) (run : Run) : Type 0 where
+pub record AllFinish (capacity : ℕ) (extent : Extent) (sessions : ℕ) (end : State) (dues : ℕ → List Due) (requests : List Request) (run : Run) : Type 0 where
   askers : All (λ request. IsSession sessions (asker request)) requests
   left : length run.left ≡ sessions
   transcripts : length run.transcripts ≡ sessions
@@ -121,10 +121,10 @@ module _ (capacity : ℕ) (extent : Extent) (sessions : ℕ) (end : State) (dues
     first-asker : IsSession sessions (asker request)
     first-asker = All-head (λ request. IsSession sessions (asker request)) request requests finish.askers
 
-    first-next : next_request extent (asker request) run ≡ Some request
+    pub first-next : next_request extent (asker request) run ≡ Some request
     first-next = asked-first capacity extent request requests run (dues (asker request)) first-asker.some (finish.each (asker request) first-asker)
 
-    first-step : stepped capacity extent (asker request) run ≡ with_request capacity extent (asker request) request run
+    pub first-step : stepped capacity extent (asker request) run ≡ with_request capacity extent (asker request) request run
     first-step = ap (λ (next : Option Request). with_next capacity extent (asker request) next run) first-next
 
     each-after : (session : ℕ) → IsSession sessions session
@@ -138,7 +138,7 @@ module _ (capacity : ℕ) (extent : Extent) (sessions : ℕ) (end : State) (dues
           | inr other ↦ finishes-other capacity extent request requests run (dues session) session here.some first-asker.some other (finish.each session here)
         ]
 
-    finish-after : AllFinish capacity extent sessions end dues requests (stepped capacity extent (asker request) run)
+    pub finish-after : AllFinish capacity extent sessions end dues requests (stepped capacity extent (asker request) run)
     finish-after =
         subst (AllFinish capacity extent sessions end dues requests) (sym first-step)
         (record {
@@ -184,7 +184,7 @@ module _ (capacity : ℕ) (extent : Extent) (sessions : ℕ) (end : State) (dues
         ∙ finish-legal (suc place) requests (stepped capacity extent (asker request) run) (finish-after request requests run finish)
 
 -- ---- the steps of a book
-askers-are : (steps : List Step) → map asker (map request_of steps) ≡ map session_of steps
+pub askers-are : (steps : List Step) → map asker (map request_of steps) ≡ map session_of steps
 askers-are [] = refl
 askers-are (step ∷ steps) = cc (asker-step step, askers-are steps)
 
@@ -217,7 +217,7 @@ module _ (script : ScriptValue) (book : BookValue) (is_book : IsBook book) (tran
       (All-weaker (λ step. IsSession book.sessions (session_of step)) (λ step. IsSession (length script.sessions) (asker (request_of step)))
       (λ step is. subst (IsSession (length script.sessions)) (sym (asker-step step)) (subst (λ (n : ℕ). IsSession n (session_of step)) sessions is)) book.history is_book.sessions)
 
-  all-finish : AllFinish book.capacity script.extent (length script.sessions) (state_of book) dues requests (opening_run script)
+  pub all-finish : AllFinish book.capacity script.extent (length script.sessions) (state_of book) dues requests (opening_run script)
   all-finish =
       subst (λ (n : ℕ). AllFinish book.capacity script.extent (length script.sessions) (state_of book) dues requests (record (opening_run script) { state = opening n })) sessions
       (record { askers = asker-each; left = refl; transcripts = length-replicate (length script.sessions) []; state = refl; each = finishes-each })

@@ -1,5 +1,5 @@
 -- What a run keeps while it takes its steps.
-use Rattle.std.specs.Prelude.{◌≡◌, ℕ, ◌+◌, ◌-◌, ◌*◌, ◌≤◌, false, List, [], ◌∷◌, ◌++◌, All, map, drop, length, sum_by, slice_index_or, slice_set, true, Option, Some, None}
+use Rattle.std.specs.Prelude.{◌≡◌, ℕ, ◌+◌, ◌-◌, ◌*◌, ◌≤◌, nat_eq, if◌then◌else◌, false, List, [], ◌∷◌, ◌++◌, All, map, drop, length, sum_by, slice_index_or, slice_set, true, Option, Some, None}
 use Rattle.definitions.specs.Words.{Extent}
 use Rattle.versions.specs.Versions.{LogValue}
 use Rattle.script_reader.specs.Script.{ScriptValue}
@@ -82,6 +82,22 @@ units_of state _ = 0
 abbrev pub units_in : ℕ → Extent → List ℕ → Run → ℕ
 units_in capacity extent [] run = 0
 units_in capacity extent (session ∷ order) run = units_of run.state (next_request extent session run) + units_in capacity extent order (stepped capacity extent session run)
+
+-- the units of one session's steps among those of an order
+abbrev pub units_of_session : ℕ → Extent → ℕ → List ℕ → Run → ℕ
+units_of_session capacity extent session [] run = 0
+units_of_session capacity extent session (by ∷ order) run =
+    (if nat_eq session by then units_of run.state (next_request extent by run) else 0) + units_of_session capacity extent session order (stepped capacity extent by run)
+
+-- the counter of a session, whose number counts from 1
+abbrev pub counter_of : ℕ → List ℕ → ℕ
+counter_of session counters = slice_index_or counters (session - 1) 0
+
+-- each counter was raised by exactly the units of its session's steps: the first by those of session 1, and so on
+pub record AreCounted (capacity : ℕ) (script : ScriptValue) (order : List ℕ) (before after : List ℕ) : Type 0 where
+  pub same_number : length after ≡ length before
+  pub each : (session : ℕ) → IsSession (length script.sessions) session
+      → counter_of session after ≡ counter_of session before + units_of_session capacity script.extent session order (opening_run script)
 
 -- ---- one step
 -- a session's step: its request is the book's next, the answers that are due to it follow those that it has, and a pending look has its

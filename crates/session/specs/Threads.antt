@@ -1,8 +1,6 @@
--- The passes of a script's sessions, before and after their work, and what the book then tells.
-use Rattle.std.specs.Prelude.{◌≡◌, ℕ, suc, ◌<◌, List, [], ◌∷◌, length, slice_index_or, Some, Contains}
+-- The passes of a script's sessions with their counters, before and after their work, and what the book then tells.
+use Rattle.std.specs.Prelude.{◌≡◌, ℕ, suc, ◌+◌, ◌<◌, List, [], ◌∷◌, length, slice_index_or, Some, Contains}
 use mathlib.Core.List.{IsPrefix}
-use Rattle.turnstile.specs.declared.kept.Kept.{Ghosts}
-use Rattle.turnstile.specs.declared.pass.Pass.{Pass}
 use Rattle.turnstile.specs.declared.turnstile.Turnstile.{Turnstile}
 use Rattle.turnstile.specs.declared.view.PassView.{PassView}
 use Rattle.turnstile.specs.Passes.{view}
@@ -11,59 +9,72 @@ use Rattle.script_reader.specs.Script.{ScriptValue}
 use Rattle.book.specs.declared.step.Step.{Step}
 use Rattle.session.specs.declared.answer.Answer.{Answer}
 use Rattle.session.specs.declared.held.BookInTurn.{BookInTurn}
+use Rattle.session.specs.declared.threads.Job.{Job}
 use Rattle.session.specs.declared.threads.Worked.{Worked}
 use Rattle.session.specs.Play.{of_session}
+use Rattle.session.specs.Runs.{counter_of}
+use Rattle.session.specs.Moments.{moments_of, units_by}
+use Rattle.session.specs.Holds.{seen_book}
 use Rattle.session.specs.Serving.{IsServing, IsOpening}
 use Rattle.session.specs.Turns.{IsIdle}
 
--- a pass that has seen and added nothing
-module _ {g : Ghosts BookInTurn Step} (t : Turnstile BookInTurn Step) (frame : List ℕ) where
-  abbrev pub IsNew : ℕ → Pass BookInTurn Step g → Type 0
-  IsNew label p = IsIdle t p × (view p ≡ new_pass label frame [])
+-- the job of a session: a pass that has seen and added nothing, and this counter
+module _ {L : Type 0} (t : Turnstile BookInTurn Step) (frame : List ℕ) where
+  pub record IsNew (label counter : ℕ) (job : Job L) : Type 0 where
+    pub idle : IsIdle t job.pass
+    pub new : view job.pass ≡ new_pass label frame []
+    pub counter_is : job.steps ≡ counter
 
-  -- such passes, with the labels from this one on
-  abbrev pub AreNew : ℕ → List (Pass BookInTurn Step g) → Type 0
-  AreNew label [] = Unit {0}
-  AreNew label (p ∷ ps) = IsNew label p × AreNew (suc label) ps
+  -- such jobs, with the labels from this one on, and the counters of the sessions that have these numbers
+  abbrev pub AreNew : List ℕ → ℕ → List (Job L) → Type 0
+  AreNew counters label [] = Unit {0}
+  AreNew counters label (job ∷ jobs) = IsNew label (counter_of label counters) job × AreNew counters (suc label) jobs
 
--- the pass of a session that is to take its steps
-module _ {g : Ghosts BookInTurn Step} (t : Turnstile BookInTurn Step) (script : ScriptValue) where
-  pub record IsReadyPass (p : Pass BookInTurn Step g) : Type 0 where
-    pub idle : IsIdle t p
-    pub opening : IsOpening script (view p)
+-- the job of a session that is to take its steps
+module _ {L : Type 0} (t : Turnstile BookInTurn Step) (script : ScriptValue) where
+  pub record IsReadyJob (job : Job L) : Type 0 where
+    pub idle : IsIdle t job.pass
+    pub opening : IsOpening script (view job.pass)
 
-  -- each of these passes is ready
-  abbrev pub AreReadyPasses : List (Pass BookInTurn Step g) → Type 0
-  AreReadyPasses ps = (i : ℕ) (d : Pass BookInTurn Step g) → i < length ps → IsReadyPass (slice_index_or ps i d)
+  -- each of these jobs is ready
+  abbrev pub AreReadyJobs : List (Job L) → Type 0
+  AreReadyJobs jobs = (i : ℕ) (d : Job L) → i < length jobs → IsReadyJob (slice_index_or jobs i d)
 
--- the pass of a session that took its steps: where none wanted memory, its answers are there
-module _ (t : Turnstile BookInTurn Step) (frame : List ℕ) (script : ScriptValue) where
-  pub record HasWorked (label : ℕ) (w : Worked) : Type 0 where
+-- the units of a session's steps as far as a pass has seen
+abbrev pub units_seen : ℕ → PassView Step → ℕ
+units_seen session v = units_by (moments_of (seen_book v) session)
+
+-- the pass of a session that took its steps: where none wanted memory, its answers are there, and its counter was raised by the units of its steps
+module _ {L : Type 0} (t : Turnstile BookInTurn Step) (frame : List ℕ) (script : ScriptValue) where
+  pub record HasWorked (label before : ℕ) (w : Worked L) : Type 0 where
     pub idle : IsIdle t w.pass
     pub label_is : (view w.pass).label ≡ label
     pub frame_is : (view w.pass).frame ≡ frame
     pub served : (answers : List Answer) → w.transcript ≡ Some answers → IsServing script (view w.pass) (length (of_session label script.sessions)) answers
+    pub ticks : (answers : List Answer) → w.transcript ≡ Some answers → w.steps ≡ before + units_seen label (view w.pass)
 
-  -- such passes, with the labels from this one on
-  abbrev pub HaveWorked : ℕ → List Worked → Type 0
-  HaveWorked label [] = Unit {0}
-  HaveWorked label (w ∷ ws) = HasWorked label w × HaveWorked (suc label) ws
+  -- such passes, with the labels from this one on, whose sessions had these counters before
+  abbrev pub HaveWorked : List ℕ → ℕ → List (Worked L) → Type 0
+  HaveWorked before label [] = Unit {0}
+  HaveWorked before label (w ∷ ws) = HasWorked label (counter_of label before) w × HaveWorked before (suc label) ws
 
--- each pass that was ready came back so
-abbrev pub EachWorked : {g : Ghosts BookInTurn Step} → Turnstile BookInTurn Step → ScriptValue → List (Pass BookInTurn Step g) → List Worked → Type 0
-EachWorked {g} t script ps ws = (i : ℕ) (d : Pass BookInTurn Step g) (e : Worked) → i < length ps
-    → HasWorked t (view (slice_index_or ps i d)).frame script (view (slice_index_or ps i d)).label (slice_index_or ws i e)
+-- each job that was ready was done so
+abbrev pub EachWorked : {L : Type 0} → Turnstile BookInTurn Step → ScriptValue → List (Job L) → List (Worked L) → Type 0
+EachWorked {L} t script jobs ws = (i : ℕ) (d : Job L) (e : Worked L) → i < length jobs
+    → HasWorked t (view (slice_index_or jobs i d).pass).frame script (view (slice_index_or jobs i d).pass).label (slice_index_or jobs i d).steps (slice_index_or ws i e)
 
--- the session of this number was served on a pass that was joined into this one
-pub record IsJoined (script : ScriptValue) (head : PassView Step) (label : ℕ) (answers : List Answer) : Type 0 where
+-- the session of this number was served on a pass that was joined into this one, and its counter was raised by the units of its steps
+pub record IsJoined (script : ScriptValue) (head : PassView Step) (label before after : ℕ) (answers : List Answer) : Type 0 where
   pub pass : PassView Step
   pub label_is : pass.label ≡ label
   pub frame_is : pass.frame ≡ head.frame
   pub serving : IsServing script pass (length (of_session label script.sessions)) answers
   pub seen : IsPrefix pass.seen head.seen
   pub own : Contains head.joined (label, pass.own)
+  pub ticks : after ≡ before + units_seen label pass
 
--- the sessions from this label on were joined, each with its answers
-abbrev pub AreJoined : ScriptValue → PassView Step → ℕ → List (List Answer) → Type 0
-AreJoined script head label [] = Unit {0}
-AreJoined script head label (answers ∷ transcripts) = IsJoined script head label answers × AreJoined script head (suc label) transcripts
+-- the sessions from this label on were joined, each with its answers, and with the counters that all sessions had before and after
+abbrev pub AreJoined : ScriptValue → PassView Step → List ℕ → List ℕ → ℕ → List (List Answer) → Type 0
+AreJoined script head before after label [] = Unit {0}
+AreJoined script head before after label (answers ∷ transcripts) =
+    IsJoined script head label (counter_of label before) (counter_of label after) answers × AreJoined script head before after (suc label) transcripts

@@ -15,10 +15,9 @@ use book::{Book, EditReply, Query, Step};
 use solve::Solved;
 use std::alloc::Global;
 use std::sync::Wait;
-use std::sync::ledger::Ledger;
 use turnstile::{Kept, Pass, Turnstile};
 use versions::Edit;
-use words::{Memory, Steps};
+use words::{Ledger, Memory, Steps};
 
 /// A book that sessions hold one after another. An entry is a step, its label the session.
 #[derive(Drop)]

@@ -18,5 +18,5 @@ pub use answer::{Answer, Outcome, Transcript};
 pub use book::LookReply;
 pub use orders::{ReplayFault, replay, replay_round};
 pub use solve::{Gate, Through};
-pub use threads::run_all;
+pub use threads::{Ran, free_counters, run_all};
 pub use versions::{Accepted, EditReply};

@@ -23,8 +23,7 @@ use crate::value::answer_of;
 use book::{Book, Look, LookReply, Query, Step};
 use solve::{Gate, Solved, Work, solve};
 use std::alloc::Global;
-use std::sync::ledger::Ledger;
-use words::{Memory, Steps};
+use words::{Ledger, Memory, Steps};
 
 /// What a look gave: the work of its answer or why there is none, its reply, and whether it is to be settled.
 #[derive(Drop)]

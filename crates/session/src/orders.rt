@@ -13,8 +13,7 @@ use crate::run::{Run, has_next, opening, step};
 use book::Book;
 use script_reader::Script;
 use std::alloc::Global;
-use std::sync::ledger::Ledger;
-use words::{Capacity, Memory, Steps};
+use words::{Capacity, Ledger, Memory, Steps};
 
 /// Why there is no outcome of an order.
 #[derive(Debug, Clone, Copy, PartialEq, Eq, Drop)]

@@ -25,9 +25,8 @@ use book::Book;
 use script_reader::{Command, Script};
 use solve::{Solved, Through};
 use std::alloc::Global;
-use std::sync::ledger::Ledger;
 use versions::Edit;
-use words::{Capacity, Memory, Steps};
+use words::{Capacity, Ledger, Memory, Steps};
 
 /// The book, and for each session how many of its commands were taken, the solution of its pending look, and its answers.
 #[derive(Drop)]

@@ -27,10 +27,9 @@ use script_reader::{Command, Script};
 use solve::Gate;
 use std::alloc::Global;
 use std::sync::Wait;
-use std::sync::ledger::Ledger;
 use turnstile::{Pass, Turnstile};
 use versions::Edit;
-use words::{Memory, Shape, Steps};
+use words::{Ledger, Memory, Shape, Steps};
 
 /// Makes an edit, and answers it.
 fn serve_edit<R: Wait>(

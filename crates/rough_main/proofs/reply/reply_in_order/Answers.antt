@@ -12,14 +12,14 @@ use Rattle.rough_main.proofs.reply.reply_in_order.Goals as goal
 
 pub returns-in-Ok-clause-reply : goal.returns-in-Ok-clause-reply
 returns-in-Ok-clause-reply c =
-    subst (λ (s : Result ScriptValue ScriptFault). IfOk c.reply_counted.result (λ (reply : Reply). IsReply (code_of reply.status) reply.text.items (script_reply c.args.form c.args.capacity c.args.order.now s)))
-    (sym c.in-Ok.ensures.read) c.reply_counted.ensures
+    subst (λ (s : Result ScriptValue ScriptFault). IfOk c.reply_ordered.result (λ (reply : Reply). IsReply (code_of reply.status) reply.text.items (script_reply c.args.form c.args.capacity c.args.order.now s)))
+    (sym c.in-Ok.ensures.read) c.reply_ordered.ensures
 
 pub returns-in-Ok-clause-logarithms : goal.returns-in-Ok-clause-logarithms
-returns-in-Ok-clause-logarithms c = on-success c.reply_counted.result (subst LogarithmsExpand (sym c.in-Ok.ensures.read) c.logarithms_expand.ensures)
+returns-in-Ok-clause-logarithms c = on-success c.reply_ordered.result (subst LogarithmsExpand (sym c.in-Ok.ensures.read) c.logarithms_expand.ensures)
 
 pub returns-in-Ok-clause-versions : goal.returns-in-Ok-clause-versions
-returns-in-Ok-clause-versions c = on-success c.reply_counted.result (subst VersionsNeverFall (sym c.in-Ok.ensures.read) c.versions_never_fall.ensures)
+returns-in-Ok-clause-versions c = on-success c.reply_ordered.result (subst VersionsNeverFall (sym c.in-Ok.ensures.read) c.versions_never_fall.ensures)
 
 pub returns-in-Err-clause-reply : goal.returns-in-Err-clause-reply
 returns-in-Err-clause-reply c =

@@ -20,26 +20,26 @@ legal-reply form spelled script capacity order status text accepted legal writte
     subst (λ (s : Result ScriptValue ScriptFault). IsLegalFor capacity order s × IsReply status text (script_reply form capacity order s)) (sym accepted)
     (legal, subst (λ (place : Option ℕ). IsReply status text (unless_illegal place (answered form capacity script order))) (sym legal) written)
 
-pub returns-in_ok-outcome-in-Ok-clause-reply : goal.returns-in_ok-outcome-in-Ok-clause-reply
-returns-in_ok-outcome-in-Ok-clause-reply g c =
+pub returns-in_ok-ran-in-Ok-clause-reply : goal.returns-in_ok-ran-in-Ok-clause-reply
+returns-in_ok-ran-in-Ok-clause-reply g c =
     let form : Form = c.args.form in
     let capacity : ℕ = c.args.capacity in
     let script : ScriptValue = c.in-Ok.script in
     let spelled : Result ScriptValue ScriptFault = parse c.args.bytes.now in
-    let order : List ℕ = c.in_ok-outcome-in-Ok.outcome.order.items in
+    let order : List ℕ = c.in_ok-ran-in-Ok.ran.outcome.order.items in
     IfOk-weaker c.reply_with.result (λ (reply : Reply). IsReply (code_of reply.status) reply.text.items (answered form capacity script order))
     (λ (reply : Reply). (order : List ℕ) × IsLegalFor capacity order spelled × IsReply (code_of reply.status) reply.text.items (script_reply form capacity order spelled))
     (λ reply written.
     let due : IsLegalFor capacity order spelled × IsReply (code_of reply.status) reply.text.items (script_reply form capacity order spelled) =
-    legal-reply form spelled script capacity order (code_of reply.status) reply.text.items c.in-Ok.ensures.read c.in_ok-outcome-in-Ok.ensures.legal written in
+    legal-reply form spelled script capacity order (code_of reply.status) reply.text.items c.in-Ok.ensures.read c.in_ok-ran-in-Ok.ensures.legal written in
     (order, due.0, due.1))
-    (c.reply_with.ensures (due_outcome capacity script order) c.in_ok-outcome-in-Ok.ensures.outcome)
+    (c.reply_with.ensures (due_outcome capacity script order) c.in_ok-ran-in-Ok.ensures.outcome)
 
-pub returns-in_ok-outcome-in-Ok-clause-logarithms : goal.returns-in_ok-outcome-in-Ok-clause-logarithms
-returns-in_ok-outcome-in-Ok-clause-logarithms g c = on-success c.reply_with.result (subst LogarithmsExpand (sym c.in-Ok.ensures.read) c.logarithms_expand.ensures)
+pub returns-in_ok-ran-in-Ok-clause-logarithms : goal.returns-in_ok-ran-in-Ok-clause-logarithms
+returns-in_ok-ran-in-Ok-clause-logarithms g c = on-success c.reply_with.result (subst LogarithmsExpand (sym c.in-Ok.ensures.read) c.logarithms_expand.ensures)
 
-pub returns-in_ok-outcome-in-Ok-clause-versions : goal.returns-in_ok-outcome-in-Ok-clause-versions
-returns-in_ok-outcome-in-Ok-clause-versions g c = on-success c.reply_with.result (subst VersionsNeverFall (sym c.in-Ok.ensures.read) c.versions_never_fall.ensures)
+pub returns-in_ok-ran-in-Ok-clause-versions : goal.returns-in_ok-ran-in-Ok-clause-versions
+returns-in_ok-ran-in-Ok-clause-versions g c = on-success c.reply_with.result (subst VersionsNeverFall (sym c.in-Ok.ensures.read) c.versions_never_fall.ensures)
 
 pub returns-in-Err-clause-reply : goal.returns-in-Err-clause-reply
 returns-in-Err-clause-reply g c =

@@ -8,7 +8,7 @@ use Rattle.session.proofs.HoldLaws.{holds, holds-free, holds-frame, holds-entry,
 use Rattle.session.proofs.held.look.Goals as goal
 
 pub look_at-requires-clause-free : goal.look_at-requires-clause-free
-look_at-requires-clause-free g c =
+look_at-requires-clause-free g c κs lives =
     let took = c.in_ok-book.ensures.ok in holds-free (holds c.requires.steps took.1 took.2 took.3 c.label.ensures) c.requires.free
 
 pub give-requires-clause-frame : goal.give-requires-clause-frame

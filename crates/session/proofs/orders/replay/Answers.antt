@@ -27,14 +27,14 @@ returns-then-not-has_next-clause-illegal g c place e =
     ∙ ap (λ (n : ℕ). Some n) here
 
 pub step-requires-clause-run : goal.step-requires-clause-run
-step-requires-clause-run g c = c.loop-before.invariant.is_run
+step-requires-clause-run g c κs lives = c.loop-before.invariant.is_run
 
 -- what a test says of a session
 tested : (script : ScriptValue) (book : BookValue) (session : ℕ) (is : Bool) → is ≡ has_next script.extent (run_of script book) session → is ≡ true → HasNext script book session
 tested script book session is e h = record { has = sym e ∙ h }
 
 pub step-requires-clause-next : goal.step-requires-clause-next
-step-requires-clause-next g c =
+step-requires-clause-next g c κs lives =
     tested c.args.script.now c.loop-before.run.book (get_or c.args.order.now c.loop-before.before 0) c.has_next.result c.has_next.ensures c.if-not-has_next.false
 
 pub loop-before-preserved : goal.loop-before-preserved

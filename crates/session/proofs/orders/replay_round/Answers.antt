@@ -23,7 +23,7 @@ loop-step-init g c = record {
 }
 
 pub step-requires-clause-next : goal.step-requires-clause-next
-step-requires-clause-next g c =
+step-requires-clause-next g c κs lives =
     let script = c.args.script.now in
     let run = run_of script c.loop-step.run.book in
     record { has = (turn-is script.extent c.loop-step.last c.in-Some.session run (sym c.in-Some.ensures)).0 }

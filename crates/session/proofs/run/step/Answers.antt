@@ -94,7 +94,7 @@ looks g c asked is =
     ∙ ap (λ (a : Asked). Some (Looking c.args.session (query_for c.args.script.now.extent a))) (sym is)
 
 pub look_step-requires-clause-ask : goal.look_step-requires-clause-ask
-look_step-requires-clause-ask g c =
+look_step-requires-clause-ask g c κs lives =
     subst (λ (asked : Asked). IsAsk asked.ask) (sym c.asked_by.ensures)
     (is_command c.args.script.now c.args.run.now c.args.session c.sessions-sessions.ensures.script c.requires.run c.requires.next.has (Ask c.in-Ask.ask)
     (sym c.pending.ensures ∙ c.if-pending.false) (ask-at g (goal.at.look_step-requires-clause-ask g c).In-Ask))

@@ -20,7 +20,7 @@ use Rattle.session.proofs.serve.serve_ask.Goals as goal
 use Rattle.session.proofs.serve.serve_ask.Goals.{After-solved-in-Some-1, Joined-looked-3, in-Some+in_ok-settle, in_default}
 
 pub look-requires-clause-steps : goal.look-requires-clause-steps
-look-requires-clause-steps g c =
+look-requires-clause-steps g c κs lives =
     let was = c.requires.served in
     can-step c.args.script.now (view c.args.pass.now) was.0 was.1 was.3 c.shape-shape.ensures.script was.2 was.4
 

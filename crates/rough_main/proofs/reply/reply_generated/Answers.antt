@@ -5,15 +5,15 @@ use Rattle.session.specs.Play.{due_outcome, round_order}
 use Rattle.session.specs.Answers.{IsOutcome}
 use Rattle.answers.specs.Generator.{summary_text}
 use Rattle.answers.proofs.AnswerCounts.{answers-few}
-use Rattle.rough_main.proofs.reply.generated_counted.Goals as goal
+use Rattle.rough_main.proofs.reply.reply_generated.Goals as goal
 
 pub summary_of-requires : goal.summary_of-requires
-summary_of-requires g c =
+summary_of-requires c =
     let script : ScriptValue = c.in_ok-script.script in
     omega (arith, answers-few c.args.capacity script (round_order c.args.capacity script) c.in_ok-outcome.outcome c.shape.ensures.script c.in_ok-outcome.ensures.outcome)
 
 pub returns : goal.returns
-returns g c =
+returns c =
     let script : ScriptValue = c.in_ok-script.script in
     let due = due_outcome c.args.capacity script (round_order c.args.capacity script) in
     let text = c.in_ok-summary_of.ensures due (subst (λ (extent : Extent). IsOutcome extent c.in_ok-outcome.outcome due) (sym c.shape.ensures.value) c.in_ok-outcome.ensures.outcome) in (
